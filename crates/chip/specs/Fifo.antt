@@ -1,0 +1,30 @@
+-- The FIFO. Its meaning is the list of waiting bytes, the oldest first; only this file knows how they are kept.
+-- Paper: "The FIFO holds 12 bytes (house)."
+use mathlib.Core.Bool.{Bool, true, false}
+use mathlib.Core.List.{List, [], _∷_, _++_}
+use Prim.Native.Nat.{ℕ, _+_, _-_}
+use lib.Dec.{eqb, ltb}
+use lib.ListN.{take, drop, getD, set}
+use Rattle.chip.specs.declared.Fifo.{Fifo}
+
+-- the bytes that wait, the oldest first
+unfoldable pub waiting : Fifo → List ℕ
+waiting q = take (q .held) (q .bytes)
+
+unfoldable pub isEmpty : Fifo → Bool
+isEmpty q = eqb (q .held) 0
+
+unfoldable pub hasRoom : Fifo → Bool
+hasRoom q = ltb (q .held) 12
+
+-- the oldest byte
+unfoldable pub front : Fifo → ℕ
+front q = getD (q .bytes) 0 0
+
+-- without the oldest byte: the others move up
+unfoldable pub pop : Fifo → Fifo
+pop q = record { bytes = drop 1 (q .bytes) ++ (0 ∷ []); held = q .held - 1 }
+
+-- with one byte more, the newest
+unfoldable pub push : ℕ → Fifo → Fifo
+push b q = record { bytes = set (q .bytes) (q .held) b; held = q .held + 1 }

@@ -1,0 +1,108 @@
+-- Interrupts and endings. Paper: the section of that name, sentence by sentence.
+use mathlib.Core.Bool.{Bool, true, false, not}
+use Prim.Native.Nat.{ℕ}
+use lib.Dec.{ltb}
+use Rattle.chip.specs.Choice.{pick, both, either}
+use Rattle.chip.specs.declared.State.{State}
+use Rattle.chip.specs.declared.Reply.{Reply}
+use Rattle.chip.specs.declared.Fifo.{Fifo}
+use Rattle.chip.specs.declared.Pending.{Pending}
+use Rattle.chip.specs.declared.Pending.the-variants.{Nothing, Interrupt, Ending, ReadOut}
+use Rattle.chip.specs.declared.Running.{Running}
+use Rattle.chip.specs.declared.Running.the-variants.{Idle, SelectWithAtn, SelectWithoutAtn, TransferWithAtn, TransferWithoutAtn, TransferInfo}
+use Rattle.chip.specs.declared.Direction.{Direction}
+use Rattle.chip.specs.declared.Direction.the-variants.{Unfixed, In, Out}
+use Rattle.chip.specs.declared.Connection.the-variants.{Waiting}
+use Rattle.chip.specs.State.{empty, setFifo, setCode, setPending, setRunning, setDirection, setConnection}
+use Rattle.chip.specs.Answers.{held}
+use Rattle.chip.specs.Fifo.{isEmpty}
+
+abbrev pub isInterrupt : Pending → Bool
+isInterrupt Nothing = false
+isInterrupt Interrupt = true
+isInterrupt (Ending c) = false
+isInterrupt ReadOut = false
+
+-- INT
+abbrev pub interrupted : State → Bool
+interrupted s = isInterrupt (s .status .pending)
+
+-- the read-out after a Free at 42h "counts as an ending under every rule"
+abbrev pub isEnding : Pending → Bool
+isEnding Nothing = false
+isEnding Interrupt = false
+isEnding (Ending c) = true
+isEnding ReadOut = true
+
+-- an ending is under way
+abbrev pub ends : State → Bool
+ends s = isEnding (s .status .pending)
+
+abbrev pub isCommand : Running → Bool
+isCommand Idle = false
+isCommand SelectWithAtn = true
+isCommand SelectWithoutAtn = true
+isCommand TransferWithAtn = true
+isCommand TransferWithoutAtn = true
+isCommand TransferInfo = true
+
+-- "BSY (a Level II command runs)"; in an ending "BSY stays"
+abbrev pub busy : State → Bool
+busy s = either (isCommand (s .transfer .running)) (ends s)
+
+-- INT with a code, and nothing else
+abbrev pub interrupt : ℕ → State → State
+interrupt c s = setPending Interrupt (setCode c s)
+
+abbrev pub withoutOutgoing : Direction → Fifo → Fifo
+withoutOutgoing Unfixed q = q
+withoutOutgoing In q = q
+withoutOutgoing Out q = empty
+
+abbrev pub closed : Direction → Direction
+closed Unfixed = Unfixed
+closed In = In
+closed Out = Unfixed
+
+-- an outgoing FIFO is dropped, and DBR closes with it; an incoming one stays
+unfoldable pub outgoingDropped : State → State
+outgoingDropped s =
+    setDirection (closed (s .transfer .direction)) (setFifo (withoutOutgoing (s .transfer .direction) (s .fifo)) s)
+
+-- "A raised code sets INT, ends the command and drops an outgoing FIFO."
+unfoldable pub raise : ℕ → State → State
+raise c s = interrupt c (setRunning Idle (outgoingDropped s))
+
+abbrev pub isIncoming : Direction → Bool
+isIncoming Unfixed = false
+isIncoming In = true
+isIncoming Out = false
+
+-- incoming bytes wait for the host
+unfoldable pub unread : State → Bool
+unread s = both (isIncoming (s .transfer .direction)) (not (isEmpty (s .fifo)))
+
+-- ""Ending with c": an incoming FIFO must be read out first, then c is raised."
+unfoldable pub endingWith : ℕ → State → State
+endingWith c s = pick (unread s) (setPending (Ending c) s) (raise c s)
+
+-- what the ending comes to once the FIFO is read out: its code; after a Free at 42h, that the controller waits for reselection
+unfoldable pub settledBy : Pending → State → State
+settledBy Nothing s = s
+settledBy Interrupt s = s
+settledBy (Ending c) s = raise c s
+settledBy ReadOut s = setConnection Waiting (setPending Nothing s)
+
+-- after each byte that the host reads
+unfoldable pub settled : State → State
+settled s = pick (isEmpty (s .fifo)) (settledBy (s .status .pending) s) s
+
+-- "With INT set, an event that would raise an interrupt or begin an ending is Held"
+unfoldable pub unlessInterrupt : State → Reply → Reply
+unlessInterrupt s r = pick (interrupted s) (held s) r
+
+abbrev pub withoutInterrupt : Pending → Pending
+withoutInterrupt Nothing = Nothing
+withoutInterrupt Interrupt = Nothing
+withoutInterrupt (Ending c) = Ending c
+withoutInterrupt ReadOut = ReadOut

@@ -1,0 +1,16 @@
+pub mod Choice
+pub mod State
+pub mod Answers
+pub mod Lines
+pub mod Fifo
+pub mod Count
+pub mod Interrupts
+pub mod TransferInfo
+pub mod SelectAndTransfer
+pub mod Commands
+pub mod Registers
+pub mod Events
+pub mod Calls
+pub mod Image
+pub mod Entries
+pub mod Sessions

@@ -1,0 +1,90 @@
+-- Transfer Info, DBR, parity, and what a Free does to it. Paper: the section "Transfer Info (001)".
+use mathlib.Core.Bool.{Bool, true, false, not}
+use Prim.Native.Nat.{ℕ, _+_}
+use lib.Dec.{eqb, ltb}
+use Rattle.chip.specs.Choice.{pick, both, either}
+use Rattle.chip.specs.declared.State.{State}
+use Rattle.chip.specs.declared.Reply.{Reply}
+use Rattle.chip.specs.declared.Direction.{Direction}
+use Rattle.chip.specs.declared.Direction.the-variants.{Unfixed, In, Out}
+use Rattle.chip.specs.declared.Noted.{Noted}
+use Rattle.chip.specs.declared.Noted.the-variants.{NoPhase, Phase}
+use Rattle.chip.specs.State.{setFifo, setPe, setAck, setAtn, setReported}
+use Rattle.chip.specs.Answers.{done, held, reports}
+use Rattle.chip.specs.Lines.{comesIn, hsp}
+use Rattle.chip.specs.Fifo.{isEmpty, hasRoom, front, pop, push}
+use Rattle.chip.specs.Count.{left, noneLeft, isLast, lowered}
+use Rattle.chip.specs.Interrupts.{endingWith, unlessInterrupt}
+
+-- p is the phase kept in mind
+abbrev pub isPhase : ℕ → Noted → Bool
+isPhase p NoPhase = false
+isPhase p (Phase q) = eqb p q
+
+-- "DBR out: fewer bytes written than loaded, and room." What was written and has not crossed waits in the FIFO, so fewer were
+-- written than loaded exactly when fewer wait than are left. "DBR in: a byte waits."
+abbrev pub dbrBy : Direction → State → Bool
+dbrBy Unfixed s = false
+dbrBy In s = not (isEmpty (s .fifo))
+dbrBy Out s = both (ltb (s .fifo .held) (left s)) (hasRoom (s .fifo))
+
+unfoldable pub dbr : State → Bool
+dbr s = dbrBy (s .transfer .direction) s
+
+-- "Bad parity on any byte that would be taken in sets PE; with HSP the byte is not taken or counted, ACK is held, answer 8,
+-- ending with 43h." 43h leaves no phase reported.
+unfoldable pub halted : State → Reply
+halted s = unlessInterrupt s (reports (endingWith 0x43 (setReported NoPhase (setAck true (setPe true s)))))
+
+-- r, the reply where the byte is taken in, unless its parity halts the transfer
+unfoldable pub unlessHalted : Bool → State → Reply → Reply
+unlessHalted bad s r = pick (both bad (hsp s)) (halted s) r
+
+-- PE after a byte that is taken in
+unfoldable pub parityNoted : Bool → State → State
+parityNoted bad s = setPe (either (s .status .pe) bad) s
+
+-- "The last Message Out byte clears ATN."
+unfoldable pub atnAfter : ℕ → State → Bool
+atnAfter p s = pick (both (eqb p 6) (isLast s)) false (s .wire .atn)
+
+-- ".. takes one from .. the FIFO and lowers the count; Held if it is empty"
+unfoldable pub infoOut : ℕ → State → Reply
+infoOut p s =
+    pick (isEmpty (s .fifo)) (held s)
+    (done (front (s .fifo)) (setAtn (atnAfter p s) (lowered (setFifo (pop (s .fifo)) s))))
+
+-- ".. puts one into, the FIFO and lowers the count"
+unfoldable pub takenIn : ℕ → Bool → State → State
+takenIn b bad s = lowered (setFifo (push b (s .fifo)) (parityNoted bad s))
+
+-- "The last Message In byte holds ACK and is ending with 20h." 20h leaves no phase reported.
+unfoldable pub infoTaken : ℕ → ℕ → Bool → State → Reply
+infoTaken p b bad s =
+    pick (both (eqb p 7) (isLast s))
+    (unlessInterrupt s (done b (endingWith 0x20 (setReported NoPhase (setAck true (takenIn b bad s))))))
+    (done b (takenIn b bad s))
+
+-- "Held if it is .. full"
+unfoldable pub infoIn : ℕ → ℕ → Bool → State → Reply
+infoIn p b bad s = pick (hasRoom (s .fifo)) (unlessHalted bad s (infoTaken p b bad s)) (held s)
+
+-- "ending with 18h+p if none left, else 48h+p"
+unfoldable pub overCode : ℕ → State → ℕ
+overCode p s = pick (noneLeft s) 0x18 0x48 + p
+
+-- "With none left, or with another phase, it is Reported"
+unfoldable pub infoOver : ℕ → State → Reply
+infoOver p s = unlessInterrupt s (reports (endingWith (overCode p s) (setReported (Phase p) s)))
+
+-- "A Request of the phase under transfer with bytes left .." The phase under transfer is the reported one: the command began
+-- with it, and the next report ends the command.
+unfoldable pub infoRequest : ℕ → ℕ → Bool → State → Reply
+infoRequest p b bad s =
+    pick (both (isPhase p (s .wire .reported)) (not (noneLeft s)))
+    (pick (comesIn p) (infoIn p b bad s) (infoOut p s))
+    (infoOver p s)
+
+-- "Free: Disconnected, ending with 85h if none left, else 41h."
+unfoldable pub infoFreeCode : State → ℕ
+infoFreeCode s = pick (noneLeft s) 0x85 0x41

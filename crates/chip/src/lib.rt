@@ -1,0 +1,164 @@
+// The controller's state and the answers, as types. What they mean is said in specs/, a file for each section
+// of the paper; no function stands here.
+
+// A bus identity, 0 to 7: the data sheet's bus ID.
+pub struct Identity {
+    pub number: u8,
+}
+
+// A logical unit number, 0 to 7: the data sheet's LUN. It has a type of its own, so that it is never taken for a bus identity.
+pub struct Lun {
+    pub number: u8,
+}
+
+// The nine answers, in the paper's order. Done carries the byte read or crossed, else 0.
+pub enum Answer {
+    Done(u8),
+    Held,
+    OutOfPlace,
+    BadNumber,
+    Blind,
+    CommandIgnored,
+    ReselectionIgnored,
+    NoDataNow,
+    Reported,
+}
+
+// What the bus and we are to each other.
+pub enum Connection {
+    Disconnected,
+    Selecting,
+    Waiting,
+    Connected,
+}
+
+// The Level II command that runs.
+pub enum Running {
+    Idle,
+    SelectWithAtn,
+    SelectWithoutAtn,
+    TransferWithAtn,
+    TransferWithoutAtn,
+    TransferInfo,
+}
+
+// What is pending for the host. No state has INT and an ending, since these are cases of one type.
+// Ending holds the code that is raised when the incoming bytes are read out; ReadOut raises none and waits for reselection then.
+pub enum Pending {
+    Nothing,
+    Interrupt,
+    Ending(u8),
+    ReadOut,
+}
+
+// The way that data goes, as far as a command has fixed it.
+pub enum Direction {
+    Unfixed,
+    In,
+    Out,
+}
+
+// A phase that the controller keeps in mind, or none.
+pub enum Noted {
+    NoPhase,
+    Phase(u8),
+}
+
+// Registers 00 to 16h: Own ID, Control, Timeout Period, CDB 1 to 12 (03 to 0Eh), Target LUN (0Fh), Command Phase (10h),
+// Synchronous Transfer (11h), Transfer Count (12h to 14h, high byte first), Destination ID (15h), Source ID (16h).
+pub struct Registers {
+    pub own: u8,
+    pub control: u8,
+    pub timeout: u8,
+    pub cdb: [u8; 12],
+    pub lun: u8,
+    pub phase: u8,
+    pub synchronous: u8,
+    pub count: u32,
+    pub destination: u8,
+    pub source: u8,
+}
+
+// What the host sees beside the registers: the pointer, SCSI Status (17h), Command (18h), LCI, PE and what is pending.
+pub struct Status {
+    pub pointer: u8,
+    pub code: u8,
+    pub command: u8,
+    pub lci: bool,
+    pub pe: bool,
+    pub pending: Pending,
+}
+
+// The waiting bytes, the oldest first: those of bytes below held. The others are 0.
+pub struct Fifo {
+    pub bytes: [u8; 12],
+    pub held: u8,
+}
+
+// The running command, the way of its data, and whether the count stands for the single byte that 12h to 14h do not show.
+pub struct Transfer {
+    pub running: Running,
+    pub direction: Direction,
+    pub one: bool,
+}
+
+// The bus: connection, ATN, held ACK, the reported phase, the phase of the last Request answered Done or Reported since
+// connection, our identity, and the units of time that a selection has lasted.
+pub struct Wire {
+    pub connection: Connection,
+    pub atn: bool,
+    pub ack: bool,
+    pub reported: Noted,
+    pub last: Noted,
+    pub identity: Identity,
+    pub elapsed: u8,
+}
+
+pub struct State {
+    pub registers: Registers,
+    pub status: Status,
+    pub fifo: Fifo,
+    pub transfer: Transfer,
+    pub wire: Wire,
+}
+
+// What a call gives: its answer and the new state.
+pub struct Reply {
+    pub answer: Answer,
+    pub state: State,
+}
+
+// The level of a command (001, Command List).
+pub enum Level {
+    One,
+    Two,
+}
+
+// The connections in which a command is valid.
+pub enum Place {
+    Nowhere,
+    Anywhere,
+    WhenDisconnected,
+    WhenConnected,
+    WhenConnectedOrWaiting,
+    WhenConnectedOrDisconnected,
+}
+
+// A line of the command table.
+pub struct Entry {
+    pub level: Level,
+    pub place: Place,
+}
+
+// What the command phase register (10h) stands for while a Select-And-Transfer runs: what is expected next.
+// SendCommand holds how many command bytes were taken.
+pub enum Stage {
+    SendIdentify,
+    SendCommand(u8),
+    Body,
+    AfterData,
+    Disconnecting,
+    Reselected,
+    AfterStatus,
+    Elsewhere,
+}
