@@ -1,5 +1,6 @@
 -- One word that opens every definition of a step, so that closed calls compute: `unfolding everything`.
 use Rattle.chip.specs.Choice as Choice
+use Rattle.chip.specs.Phases as Phases
 use Rattle.chip.specs.Lines as Lines
 use Rattle.chip.specs.Fifo as Fifo
 use Rattle.chip.specs.Count as Count
@@ -12,33 +13,34 @@ use Rattle.chip.specs.Events as Events
 use Rattle.chip.specs.Calls as Calls
 
 unfoldable pub everything : Unit {0}
-unfolding Choice.pick Choice.both Choice.either Lines.isOn Lines.packed Lines.comesIn Lines.hsp Lines.idi Lines.withIdi
+unfolding Choice.pick Choice.both Choice.either Phases.phaseOf Lines.isOn Lines.packed Lines.hsp Lines.idi Lines.withIdi
     Lines.er Lines.isSingle Lines.codeOf Lines.ownIdentity Lines.destination Lines.sameIdentity Lines.lunOf
-    Lines.identify Lines.ones Lines.qualifies Lines.areTwo Lines.lowest Lines.otherIdentity Lines.sourceAfter
-    Fifo.waiting Fifo.isEmpty Fifo.hasRoom Fifo.front Fifo.pop Fifo.push Count.left Count.noneLeft Count.isLast
-    Count.lowered Count.loaded Count.meansOne Count.loadedInfo Interrupts.outgoingDropped Interrupts.raise
-    Interrupts.unread Interrupts.endingWith Interrupts.settledBy Interrupts.settled Interrupts.unlessInterrupt
-    TransferInfo.dbr TransferInfo.halted TransferInfo.unlessHalted TransferInfo.parityNoted TransferInfo.atnAfter
-    TransferInfo.infoOut TransferInfo.takenIn TransferInfo.infoTaken TransferInfo.infoIn TransferInfo.overCode
-    TransferInfo.infoOver TransferInfo.infoRequest TransferInfo.infoFreeCode SelectAndTransfer.sizeOf
-    SelectAndTransfer.size SelectAndTransfer.firstStage SelectAndTransfer.nextStage SelectAndTransfer.stageOf
+    Lines.identify Lines.lineOf Lines.ones Lines.qualifies Lines.areTwo Lines.lowest Lines.without
+    Lines.otherIdentity Lines.sourceAfter Fifo.waiting Fifo.isEmpty Fifo.hasRoom Fifo.front Fifo.pop Fifo.push
+    Count.left Count.noneLeft Count.isLast Count.lowered Count.loaded Count.meansOne Count.loadedInfo
+    Interrupts.outgoingDropped Interrupts.raise Interrupts.unread Interrupts.endingWith Interrupts.settledBy
+    Interrupts.settled Interrupts.unlessInterrupt TransferInfo.dbr TransferInfo.halted TransferInfo.unlessHalted
+    TransferInfo.parityNoted TransferInfo.atnAfter TransferInfo.infoOut TransferInfo.takenIn
+    TransferInfo.infoTaken TransferInfo.infoIn TransferInfo.overCode TransferInfo.infoOver
+    TransferInfo.infoRequest TransferInfo.infoFreeCode SelectAndTransfer.sizeOf SelectAndTransfer.size
+    SelectAndTransfer.firstStage SelectAndTransfer.nextStage SelectAndTransfer.stageOf
     SelectAndTransfer.unexpected SelectAndTransfer.sendIdentify SelectAndTransfer.sendCommand
     SelectAndTransfer.phaseAfter SelectAndTransfer.sendData SelectAndTransfer.takeData SelectAndTransfer.dataOut
-    SelectAndTransfer.dataIn SelectAndTransfer.dataRequest SelectAndTransfer.takeStatus SelectAndTransfer.takeSave
-    SelectAndTransfer.takeDisconnect SelectAndTransfer.statusOrMessage SelectAndTransfer.bodyRequest
-    SelectAndTransfer.takeIdentify SelectAndTransfer.takeComplete SelectAndTransfer.requestAt
-    SelectAndTransfer.transferRequest SelectAndTransfer.freeAfterDisconnect SelectAndTransfer.transferFree
-    SelectAndTransfer.fromDisconnected SelectAndTransfer.hasSize SelectAndTransfer.isResumable
-    SelectAndTransfer.ackAfterResume SelectAndTransfer.resumed Commands.table Commands.entryOf Commands.isReady
-    Commands.isValid Commands.reset Commands.aborted Commands.disconnected Commands.selecting
-    Commands.transferring Commands.informing Commands.carriedOut Commands.accepted Commands.isRefusedBusy
-    Commands.commanded Registers.pointerRead Registers.pointerSet Registers.auxiliaryRead Registers.pointerAfter
-    Registers.isBlind Registers.registerAt Registers.highWritten Registers.middleWritten Registers.lowWritten
-    Registers.stored Registers.dataRead Registers.dataWritten Registers.readAt Registers.writtenAt
-    Registers.stepped Registers.accessedAt Registers.accessed Registers.blockRead Registers.blockWritten
-    Events.timedOut Events.selectionTime Events.passed Events.connected Events.answeredState
-    Events.answeredSelecting Events.answered Events.reselectedState Events.reselectedLoud Events.namesTarget
-    Events.reselectedWaiting Events.reselected Events.idleRequest Events.requestedConnected Events.remembered
-    Events.requested Events.busFree Events.idleFree Events.freed Calls.isGood Calls.carried Calls.step Calls.after
-    Calls.answers
+    SelectAndTransfer.dataIn SelectAndTransfer.unlessNoneLeft SelectAndTransfer.takeStatus
+    SelectAndTransfer.takeSave SelectAndTransfer.takeDisconnect SelectAndTransfer.takeMessage
+    SelectAndTransfer.bodyRequest SelectAndTransfer.lateRequest SelectAndTransfer.takeIdentify
+    SelectAndTransfer.takeComplete SelectAndTransfer.requestAt SelectAndTransfer.transferRequest
+    SelectAndTransfer.freeAfterDisconnect SelectAndTransfer.transferFree SelectAndTransfer.fromDisconnected
+    SelectAndTransfer.hasSize SelectAndTransfer.isResumable SelectAndTransfer.ackAfterResume
+    SelectAndTransfer.resumed Commands.table Commands.entryOf Commands.isReady Commands.isValid Commands.reset
+    Commands.aborted Commands.disconnected Commands.selecting Commands.transferring Commands.informing
+    Commands.carriedOut Commands.accepted Commands.isRefusedBusy Commands.commanded Registers.pointerRead
+    Registers.pointerSet Registers.auxiliaryRead Registers.pointerAfter Registers.isBlind Registers.registerAt
+    Registers.highWritten Registers.middleWritten Registers.lowWritten Registers.stored Registers.dataRead
+    Registers.dataWritten Registers.readAt Registers.writtenAt Registers.stepped Registers.accessedAt
+    Registers.accessed Registers.blockRead Registers.blockWritten Events.timedOut Events.selectionTime
+    Events.passed Events.connected Events.answeredState Events.answeredSelecting Events.answered
+    Events.reselectedState Events.reselectedLoud Events.namesTarget Events.reselectedWaiting Events.reselected
+    Events.idleRequest Events.requestedConnected Events.remembered Events.requested Events.busFree Events.idleFree
+    Events.freed Calls.isGood Calls.carried Calls.step Calls.after Calls.answers
 everything = tt

@@ -20,10 +20,13 @@ use Rattle.chip.specs.declared.Pending.the-variants.{Nothing, Interrupt}
 use Rattle.chip.specs.declared.Direction.{Direction}
 use Rattle.chip.specs.declared.Direction.the-variants.{Unfixed, In, Out}
 use Rattle.chip.specs.declared.Noted.{Noted}
-use Rattle.chip.specs.declared.Noted.the-variants.{NoPhase, Phase}
+use Rattle.chip.specs.declared.Noted.the-variants.{NoPhase, Was}
+use Rattle.chip.specs.declared.Phase.{Phase}
+use Rattle.chip.specs.declared.Phase.the-variants.{MessageOut}
 use Rattle.chip.specs.State.{empty, cleared, nothingRuns, apart, setFifo, setTransfer, setControl, setCommand, setLci, setPe, setPending, setRunning, setDirection, setConnection, setAtn, setAck, setReported, setElapsed}
 use Rattle.chip.specs.Answers.{done, ignored}
-use Rattle.chip.specs.Lines.{isSingle, codeOf, ownIdentity, withIdi, comesIn}
+use Rattle.chip.specs.Lines.{isSingle, codeOf, ownIdentity, withIdi}
+use Rattle.chip.specs.Phases.{phaseNumber, comesIn}
 use Rattle.chip.specs.Count.{loadedInfo}
 use Rattle.chip.specs.Interrupts.{interrupted, ends, busy, interrupt, raise, endingWith}
 use Rattle.chip.specs.SelectAndTransfer.{fromDisconnected, hasSize, isResumable, resumed}
@@ -114,7 +117,7 @@ isPlace WhenConnectedOrDisconnected c = either (isConnected c) (isDisconnected c
 
 abbrev pub isSome : Noted → Bool
 isSome NoPhase = false
-isSome (Phase p) = true
+isSome (Was p) = true
 
 -- what a command asks for beside the connection.
 -- "Abort is valid while BSY with no ending under way." "Transfer Info: connected, ACK not held, a phase reported."
@@ -141,15 +144,15 @@ reset b s =
     }
 
 -- "28h plus the phase of the last Request answered Done or Reported since connection, Message Out's 2Eh if none (house)"
-abbrev pub abortPhase : Noted → ℕ
-abortPhase NoPhase = 6
-abortPhase (Phase p) = p
+abbrev pub abortPhase : Noted → Phase
+abortPhase NoPhase = MessageOut
+abortPhase (Was p) = p
 
 -- "When selecting or waiting for reselection it raises 22h, Disconnected. When connected it is ending with 28h plus the phase .."
 unfoldable pub aborted : State → State
 aborted s =
     pick (isConnected (s .wire .connection))
-    (endingWith (0x28 + abortPhase (s .wire .last)) (setReported (Phase (abortPhase (s .wire .last))) s))
+    (endingWith (0x28 + phaseNumber (abortPhase (s .wire .last))) (setReported (Was (abortPhase (s .wire .last))) s))
     (raise 0x22 (setConnection Disconnected s))
 
 -- "Disconnect, when connected, drops command, FIFO, ATN and held ACK; no interrupt (house)." An ending goes with its bytes.
@@ -169,7 +172,7 @@ transferring r s = pick (isConnected (s .wire .connection)) (resumed r s) (selec
 -- the way of a phase: "Odd p comes in"
 abbrev pub wayOf : Noted → Direction
 wayOf NoPhase = Unfixed
-wayOf (Phase p) = pick (comesIn p) In Out
+wayOf (Was p) = pick (comesIn p) In Out
 
 -- Transfer Info begins, in the reported phase
 unfoldable pub informing : Bool → State → State

@@ -12,12 +12,14 @@ use Rattle.chip.specs.declared.Connection.{Connection}
 use Rattle.chip.specs.declared.Connection.the-variants.{Disconnected, Selecting, Waiting, Connected}
 use Rattle.chip.specs.declared.Running.{Running}
 use Rattle.chip.specs.declared.Running.the-variants.{Idle, SelectWithAtn, SelectWithoutAtn, TransferWithAtn, TransferWithoutAtn, TransferInfo}
-use Rattle.chip.specs.declared.Noted.the-variants.{NoPhase, Phase}
+use Rattle.chip.specs.declared.Noted.the-variants.{NoPhase, Was}
+use Rattle.chip.specs.declared.Phase.{Phase}
+use Rattle.chip.specs.Phases.{phaseNumber, isNoted}
 use Rattle.chip.specs.State.{setConnection, setAtn, setAck, setReported, setLast, setPhase, setSource, setElapsed}
 use Rattle.chip.specs.Answers.{says, done, held, outOfPlace, reselectionIgnored, reports}
 use Rattle.chip.specs.Lines.{qualifies, areTwo, otherIdentity, sourceAfter, destination, sameIdentity}
 use Rattle.chip.specs.Interrupts.{interrupted, ends, raise, endingWith, unlessInterrupt}
-use Rattle.chip.specs.TransferInfo.{isPhase, infoRequest, infoFreeCode}
+use Rattle.chip.specs.TransferInfo.{infoRequest, infoFreeCode}
 use Rattle.chip.specs.SelectAndTransfer.{transferRequest, transferFree}
 
 -- Time
@@ -124,13 +126,13 @@ reselected lines s =
 -- Request
 
 -- "Connected and idle: a Request of a phase not yet reported raises 88h+p and reports p; the reported one again is Held."
-unfoldable pub idleRequest : ℕ → State → Reply
+unfoldable pub idleRequest : Phase → State → Reply
 idleRequest p s =
-    pick (isPhase p (s .wire .reported)) (held s)
-    (unlessInterrupt s (reports (raise (0x88 + p) (setReported (Phase p) s))))
+    pick (isNoted p (s .wire .reported)) (held s)
+    (unlessInterrupt s (reports (raise (0x88 + phaseNumber p) (setReported (Was p) s))))
 
 -- by the command that runs; a Select has done its work when connected
-abbrev pub servedBy : Running → ℕ → ℕ → Bool → State → Reply
+abbrev pub servedBy : Running → Phase → ℕ → Bool → State → Reply
 servedBy Idle p b bad s = idleRequest p s
 servedBy SelectWithAtn p b bad s = idleRequest p s
 servedBy SelectWithoutAtn p b bad s = idleRequest p s
@@ -139,20 +141,20 @@ servedBy TransferWithoutAtn p b bad s = transferRequest false p b bad s
 servedBy TransferInfo p b bad s = infoRequest p b bad s
 
 -- in an ending "bus events are Held"; "Held while ACK is held"
-unfoldable pub requestedConnected : ℕ → ℕ → Bool → State → Reply
+unfoldable pub requestedConnected : Phase → ℕ → Bool → State → Reply
 requestedConnected p b bad s =
     pick (ends s) (held s) (pick (s .wire .ack) (held s) (servedBy (s .transfer .running) p b bad s))
 
 -- "Connected only."
-abbrev pub requestedBy : Connection → ℕ → ℕ → Bool → State → Reply
+abbrev pub requestedBy : Connection → Phase → ℕ → Bool → State → Reply
 requestedBy Disconnected p b bad s = outOfPlace s
 requestedBy Selecting p b bad s = outOfPlace s
 requestedBy Waiting p b bad s = outOfPlace s
 requestedBy Connected p b bad s = requestedConnected p b bad s
 
 -- "the last Request answered Done or Reported since connection" is kept in mind for Abort
-abbrev pub rememberedBy : Answer → ℕ → Reply → Reply
-rememberedBy (Done v) p r = says (Done v) (setLast (Phase p) (r .state))
+abbrev pub rememberedBy : Answer → Phase → Reply → Reply
+rememberedBy (Done v) p r = says (Done v) (setLast (Was p) (r .state))
 rememberedBy Held p r = r
 rememberedBy OutOfPlace p r = r
 rememberedBy BadNumber p r = r
@@ -160,13 +162,13 @@ rememberedBy Blind p r = r
 rememberedBy CommandIgnored p r = r
 rememberedBy ReselectionIgnored p r = r
 rememberedBy NoDataNow p r = r
-rememberedBy Reported p r = says Reported (setLast (Phase p) (r .state))
+rememberedBy Reported p r = says Reported (setLast (Was p) (r .state))
 
-unfoldable pub remembered : ℕ → Reply → Reply
+unfoldable pub remembered : Phase → Reply → Reply
 remembered p r = rememberedBy (r .answer) p r
 
 -- "Request phase p 0 to 7 (MSG, C/D, I/O as 4, 2, 1), a byte, parity good or bad."
-unfoldable pub requested : ℕ → ℕ → Bool → State → Reply
+unfoldable pub requested : Phase → ℕ → Bool → State → Reply
 requested p b bad s = remembered p (requestedBy (s .wire .connection) p b bad s)
 
 -- Free

@@ -5,6 +5,7 @@ use mathlib.Core.List.{List, [], _∷_, _++_}
 use Prim.Native.Nat.{ℕ, _+_, _-_}
 use lib.Dec.{eqb, ltb}
 use lib.ListN.{take, drop, getD, set}
+use Rattle.chip.specs.Choice.{pick}
 use Rattle.chip.specs.declared.Fifo.{Fifo}
 
 -- the bytes that wait, the oldest first
@@ -23,8 +24,8 @@ front q = getD (q .bytes) 0 0
 
 -- without the oldest byte: the others move up
 unfoldable pub pop : Fifo → Fifo
-pop q = record { bytes = drop 1 (q .bytes) ++ (0 ∷ []); held = q .held - 1 }
+pop q = pick (isEmpty q) q (record { bytes = drop 1 (q .bytes) ++ (0 ∷ []); held = q .held - 1 })
 
--- with one byte more, the newest
+-- with one byte more, the newest, where there is room
 unfoldable pub push : ℕ → Fifo → Fifo
-push b q = record { bytes = set (q .bytes) (q .held) b; held = q .held + 1 }
+push b q = pick (hasRoom q) (record { bytes = set (q .bytes) (q .held) b; held = q .held + 1 }) q

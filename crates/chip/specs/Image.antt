@@ -18,7 +18,8 @@ use Rattle.chip.specs.declared.Pending.the-variants.{Nothing, Interrupt,
 use Rattle.chip.specs.declared.Direction.{Direction}
 use Rattle.chip.specs.declared.Direction.the-variants.{Unfixed, In, Out}
 use Rattle.chip.specs.declared.Noted.{Noted}
-use Rattle.chip.specs.declared.Noted.the-variants.{NoPhase, Phase}
+use Rattle.chip.specs.declared.Noted.the-variants.{NoPhase, Was}
+use Rattle.chip.specs.Phases.{phaseNumber, phaseOf}
 
 -- each case as a byte, in the order in which the types list them
 
@@ -57,7 +58,7 @@ endingByte ReadOut = 0
 -- a phase is one more than its number, no phase is 0
 abbrev pub notedByte : Noted → ℕ
 notedByte NoPhase = 0
-notedByte (Phase p) = p + 1
+notedByte (Was p) = phaseNumber p + 1
 
 -- bytes 0 to 2
 unfoldable pub headBytes : State → List ℕ
@@ -116,7 +117,7 @@ unfoldable pub pendingOf : ℕ → ℕ → Pending
 pendingOf n c = pick (eqb n 0) Nothing (pick (eqb n 1) Interrupt (pick (eqb n 2) (Ending c) ReadOut))
 
 unfoldable pub notedOf : ℕ → Noted
-notedOf n = pick (eqb n 0) NoPhase (Phase (n - 1))
+notedOf n = pick (eqb n 0) NoPhase (Was (phaseOf (n - 1)))
 
 -- the state whose image the bytes are
 unfoldable pub stateOf : List ℕ → State

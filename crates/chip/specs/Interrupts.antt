@@ -38,17 +38,17 @@ isEnding ReadOut = true
 abbrev pub ends : State → Bool
 ends s = isEnding (s .status .pending)
 
-abbrev pub isCommand : Running → Bool
-isCommand Idle = false
-isCommand SelectWithAtn = true
-isCommand SelectWithoutAtn = true
-isCommand TransferWithAtn = true
-isCommand TransferWithoutAtn = true
-isCommand TransferInfo = true
+abbrev pub isRunning : Running → Bool
+isRunning Idle = false
+isRunning SelectWithAtn = true
+isRunning SelectWithoutAtn = true
+isRunning TransferWithAtn = true
+isRunning TransferWithoutAtn = true
+isRunning TransferInfo = true
 
 -- "BSY (a Level II command runs)"; in an ending "BSY stays"
 abbrev pub busy : State → Bool
-busy s = either (isCommand (s .transfer .running)) (ends s)
+busy s = either (isRunning (s .transfer .running)) (ends s)
 
 -- INT with a code, and nothing else
 abbrev pub interrupt : ℕ → State → State

@@ -1,6 +1,7 @@
 pub mod Choice
 pub mod State
 pub mod Answers
+pub mod Phases
 pub mod Lines
 pub mod Fifo
 pub mod Count

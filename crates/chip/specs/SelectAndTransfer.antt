@@ -12,11 +12,14 @@ use Rattle.chip.specs.declared.Running.{Running}
 use Rattle.chip.specs.declared.Running.the-variants.{Idle, SelectWithAtn, SelectWithoutAtn, TransferWithAtn, TransferWithoutAtn, TransferInfo}
 use Rattle.chip.specs.declared.Direction.{Direction}
 use Rattle.chip.specs.declared.Direction.the-variants.{Unfixed, In, Out}
-use Rattle.chip.specs.declared.Noted.the-variants.{NoPhase, Phase}
+use Rattle.chip.specs.declared.Phase.{Phase}
+use Rattle.chip.specs.declared.Phase.the-variants.{DataOut, DataIn, CommandOut, StatusIn, UnspecifiedOut, UnspecifiedIn, MessageOut, MessageIn}
+use Rattle.chip.specs.declared.Noted.the-variants.{NoPhase, Was}
 use Rattle.chip.specs.declared.Pending.the-variants.{ReadOut}
 use Rattle.chip.specs.declared.Connection.the-variants.{Waiting}
 use Rattle.chip.specs.State.{setFifo, setAck, setAtn, setReported, setPhase, setLun, setDirection, setPending, setConnection, setRunning}
 use Rattle.chip.specs.Answers.{done, held, reports}
+use Rattle.chip.specs.Phases.{phaseNumber, isCommandOut, isMessageOut, isMessageIn}
 use Rattle.chip.specs.Lines.{er, idi, lunOf, identify}
 use Rattle.chip.specs.Fifo.{isEmpty, hasRoom, front, pop}
 use Rattle.chip.specs.Count.{noneLeft, isLast, lowered, loaded}
@@ -52,17 +55,17 @@ stageOf atn phase n =
     (pick (eqb phase 0x45) Body (pick (eqb phase 0x46) AfterData (pick (eqb phase 0x50) AfterStatus Elsewhere)))))))))
 
 -- "Anything else is Reported, ending with 48h+p, and not taken, other messages included (4Fh)"
-unfoldable pub unexpected : ℕ → State → Reply
-unexpected p s = unlessInterrupt s (reports (endingWith (0x48 + p) (setReported (Phase p) s)))
+unfoldable pub unexpected : Phase → State → Reply
+unexpected p s = unlessInterrupt s (reports (endingWith (0x48 + phaseNumber p) (setReported (Was p) s)))
 
 -- 10h: "with 08, Message Out takes 80h + LUN (0Fh bits 2 to 0), plus 40h if ER; ATN clears; 20h"
-unfoldable pub sendIdentify : ℕ → State → Reply
+unfoldable pub sendIdentify : Phase → State → Reply
 sendIdentify p s =
-    pick (eqb p 6) (done (identify (lunOf s) (er s)) (setPhase 0x20 (setAtn false s))) (unexpected p s)
+    pick (isMessageOut p) (done (identify (lunOf s) (er s)) (setPhase 0x20 (setAtn false s))) (unexpected p s)
 
 -- "Command takes CDB byte x+1; 31h+x"
-unfoldable pub sendCommand : ℕ → ℕ → State → Reply
-sendCommand x p s = pick (eqb p 2) (done (getD (s .registers .cdb) x 0) (setPhase (0x31 + x) s)) (unexpected p s)
+unfoldable pub sendCommand : ℕ → Phase → State → Reply
+sendCommand x p s = pick (isCommandOut p) (done (getD (s .registers .cdb) x 0) (setPhase (0x31 + x) s)) (unexpected p s)
 
 -- "at zero left, 46h"
 unfoldable pub phaseAfter : State → ℕ
@@ -85,19 +88,17 @@ takeData b bad s =
 -- with no code and no byte moved: DBR opens, and it is offered again (house)."
 unfoldable pub dataOut : Direction → State → Reply
 dataOut Unfixed s = reports (setDirection Out s)
-dataOut In s = unexpected 0 s
+dataOut In s = unexpected DataOut s
 dataOut Out s = sendData s
 
 unfoldable pub dataIn : Direction → ℕ → Bool → State → Reply
 dataIn Unfixed b bad s = takeData b bad s
 dataIn In b bad s = takeData b bad s
-dataIn Out b bad s = unexpected 1 s
+dataIn Out b bad s = unexpected DataIn s
 
 -- "A loaded count of zero expects no data", nor does one that is used up
-unfoldable pub dataRequest : ℕ → ℕ → Bool → State → Reply
-dataRequest p b bad s =
-    pick (noneLeft s) (unexpected p s)
-    (pick (eqb p 0) (dataOut (s .transfer .direction) s) (dataIn (s .transfer .direction) b bad s))
+unfoldable pub unlessNoneLeft : Phase → State → Reply → Reply
+unlessNoneLeft p s r = pick (noneLeft s) (unexpected p s) r
 
 -- "Status goes to 0Fh; 50h. Going out, the FIFO is dropped and DBR closes; a count not used up stays."
 unfoldable pub takeStatus : ℕ → Bool → State → Reply
@@ -114,45 +115,61 @@ takeSave bad s =
 unfoldable pub takeDisconnect : Bool → State → Reply
 takeDisconnect bad s = unlessHalted bad s (done 0x04 (setPhase 0x42 (parityNoted bad s)))
 
--- "46h: Status or Message In." The message is 02 or 04
-unfoldable pub statusOrMessage : ℕ → ℕ → Bool → State → Reply
-statusOrMessage p b bad s =
-    pick (eqb p 3) (takeStatus b bad s)
-    (pick (both (eqb p 7) (eqb b 0x02)) (takeSave bad s)
-    (pick (both (eqb p 7) (eqb b 0x04)) (takeDisconnect bad s) (unexpected p s)))
+-- "Message In before Status": 02 or 04
+unfoldable pub takeMessage : ℕ → Bool → State → Reply
+takeMessage b bad s =
+    pick (eqb b 0x02) (takeSave bad s) (pick (eqb b 0x04) (takeDisconnect bad s) (unexpected MessageIn s))
 
 -- "3xh at the size, 41h, 45h: Data (0 or 1), Status or Message In."
-unfoldable pub bodyRequest : ℕ → ℕ → Bool → State → Reply
-bodyRequest p b bad s = pick (ltb p 2) (dataRequest p b bad s) (statusOrMessage p b bad s)
+unfoldable pub bodyRequest : Phase → ℕ → Bool → State → Reply
+bodyRequest DataOut b bad s = unlessNoneLeft DataOut s (dataOut (s .transfer .direction) s)
+bodyRequest DataIn b bad s = unlessNoneLeft DataIn s (dataIn (s .transfer .direction) b bad s)
+bodyRequest CommandOut b bad s = unexpected CommandOut s
+bodyRequest StatusIn b bad s = takeStatus b bad s
+bodyRequest UnspecifiedOut b bad s = unexpected UnspecifiedOut s
+bodyRequest UnspecifiedIn b bad s = unexpected UnspecifiedIn s
+bodyRequest MessageOut b bad s = unexpected MessageOut s
+bodyRequest MessageIn b bad s = takeMessage b bad s
+
+-- "46h: Status or Message In."
+unfoldable pub lateRequest : Phase → ℕ → Bool → State → Reply
+lateRequest DataOut b bad s = unexpected DataOut s
+lateRequest DataIn b bad s = unexpected DataIn s
+lateRequest CommandOut b bad s = unexpected CommandOut s
+lateRequest StatusIn b bad s = takeStatus b bad s
+lateRequest UnspecifiedOut b bad s = unexpected UnspecifiedOut s
+lateRequest UnspecifiedIn b bad s = unexpected UnspecifiedIn s
+lateRequest MessageOut b bad s = unexpected MessageOut s
+lateRequest MessageIn b bad s = takeMessage b bad s
 
 -- "44h: Message In equal to 80h + LUN gives 45h."
-unfoldable pub takeIdentify : ℕ → ℕ → Bool → State → Reply
+unfoldable pub takeIdentify : Phase → ℕ → Bool → State → Reply
 takeIdentify p b bad s =
-    pick (both (eqb p 7) (eqb b (identify (lunOf s) false)))
+    pick (both (isMessageIn p) (eqb b (identify (lunOf s) false)))
     (unlessHalted bad s (done b (setPhase 0x45 (parityNoted bad s))))
     (unexpected p s)
 
 -- "50h: Message In 00 gives 60h, ending with 16h." 16h leaves no phase reported.
-unfoldable pub takeComplete : ℕ → ℕ → Bool → State → Reply
+unfoldable pub takeComplete : Phase → ℕ → Bool → State → Reply
 takeComplete p b bad s =
-    pick (both (eqb p 7) (eqb b 0x00))
+    pick (both (isMessageIn p) (eqb b 0x00))
     (unlessHalted bad s
     (unlessInterrupt s (done 0x00 (endingWith 0x16 (setReported NoPhase (setPhase 0x60 (parityNoted bad s)))))))
     (unexpected p s)
 
 -- a Request by what the phase register stands for
-unfoldable pub requestAt : Stage → ℕ → ℕ → Bool → State → Reply
+unfoldable pub requestAt : Stage → Phase → ℕ → Bool → State → Reply
 requestAt SendIdentify p b bad s = sendIdentify p s
 requestAt (SendCommand x) p b bad s = sendCommand x p s
 requestAt Body p b bad s = bodyRequest p b bad s
-requestAt AfterData p b bad s = statusOrMessage p b bad s
+requestAt AfterData p b bad s = lateRequest p b bad s
 requestAt Disconnecting p b bad s = unexpected p s
 requestAt Reselected p b bad s = takeIdentify p b bad s
 requestAt AfterStatus p b bad s = takeComplete p b bad s
 requestAt Elsewhere p b bad s = unexpected p s
 
 -- a Request while a Select-And-Transfer runs, with or without ATN
-unfoldable pub transferRequest : Bool → ℕ → ℕ → Bool → State → Reply
+unfoldable pub transferRequest : Bool → Phase → ℕ → Bool → State → Reply
 transferRequest atn p b bad s = requestAt (stageOf atn (s .registers .phase) (size s)) p b bad s
 
 -- "42h: Free gives 43h, Disconnected; with IDI, ending with 85h; without it, an outgoing FIFO stays, an incoming one is read out

@@ -1,25 +1,21 @@
 -- Transfer Info, DBR, parity, and what a Free does to it. Paper: the section "Transfer Info (001)".
 use mathlib.Core.Bool.{Bool, true, false, not}
 use Prim.Native.Nat.{ℕ, _+_}
-use lib.Dec.{eqb, ltb}
+use lib.Dec.{ltb}
 use Rattle.chip.specs.Choice.{pick, both, either}
 use Rattle.chip.specs.declared.State.{State}
 use Rattle.chip.specs.declared.Reply.{Reply}
 use Rattle.chip.specs.declared.Direction.{Direction}
 use Rattle.chip.specs.declared.Direction.the-variants.{Unfixed, In, Out}
-use Rattle.chip.specs.declared.Noted.{Noted}
-use Rattle.chip.specs.declared.Noted.the-variants.{NoPhase, Phase}
+use Rattle.chip.specs.declared.Phase.{Phase}
+use Rattle.chip.specs.declared.Noted.the-variants.{NoPhase, Was}
 use Rattle.chip.specs.State.{setFifo, setPe, setAck, setAtn, setReported}
 use Rattle.chip.specs.Answers.{done, held, reports}
-use Rattle.chip.specs.Lines.{comesIn, hsp}
+use Rattle.chip.specs.Phases.{phaseNumber, comesIn, isMessageOut, isMessageIn, isNoted}
+use Rattle.chip.specs.Lines.{hsp}
 use Rattle.chip.specs.Fifo.{isEmpty, hasRoom, front, pop, push}
 use Rattle.chip.specs.Count.{left, noneLeft, isLast, lowered}
 use Rattle.chip.specs.Interrupts.{endingWith, unlessInterrupt}
-
--- p is the phase kept in mind
-abbrev pub isPhase : ℕ → Noted → Bool
-isPhase p NoPhase = false
-isPhase p (Phase q) = eqb p q
 
 -- "DBR out: fewer bytes written than loaded, and room." What was written and has not crossed waits in the FIFO, so fewer were
 -- written than loaded exactly when fewer wait than are left. "DBR in: a byte waits."
@@ -45,11 +41,11 @@ unfoldable pub parityNoted : Bool → State → State
 parityNoted bad s = setPe (either (s .status .pe) bad) s
 
 -- "The last Message Out byte clears ATN."
-unfoldable pub atnAfter : ℕ → State → Bool
-atnAfter p s = pick (both (eqb p 6) (isLast s)) false (s .wire .atn)
+unfoldable pub atnAfter : Phase → State → Bool
+atnAfter p s = pick (both (isMessageOut p) (isLast s)) false (s .wire .atn)
 
 -- ".. takes one from .. the FIFO and lowers the count; Held if it is empty"
-unfoldable pub infoOut : ℕ → State → Reply
+unfoldable pub infoOut : Phase → State → Reply
 infoOut p s =
     pick (isEmpty (s .fifo)) (held s)
     (done (front (s .fifo)) (setAtn (atnAfter p s) (lowered (setFifo (pop (s .fifo)) s))))
@@ -59,29 +55,29 @@ unfoldable pub takenIn : ℕ → Bool → State → State
 takenIn b bad s = lowered (setFifo (push b (s .fifo)) (parityNoted bad s))
 
 -- "The last Message In byte holds ACK and is ending with 20h." 20h leaves no phase reported.
-unfoldable pub infoTaken : ℕ → ℕ → Bool → State → Reply
+unfoldable pub infoTaken : Phase → ℕ → Bool → State → Reply
 infoTaken p b bad s =
-    pick (both (eqb p 7) (isLast s))
+    pick (both (isMessageIn p) (isLast s))
     (unlessInterrupt s (done b (endingWith 0x20 (setReported NoPhase (setAck true (takenIn b bad s))))))
     (done b (takenIn b bad s))
 
 -- "Held if it is .. full"
-unfoldable pub infoIn : ℕ → ℕ → Bool → State → Reply
+unfoldable pub infoIn : Phase → ℕ → Bool → State → Reply
 infoIn p b bad s = pick (hasRoom (s .fifo)) (unlessHalted bad s (infoTaken p b bad s)) (held s)
 
 -- "ending with 18h+p if none left, else 48h+p"
-unfoldable pub overCode : ℕ → State → ℕ
-overCode p s = pick (noneLeft s) 0x18 0x48 + p
+unfoldable pub overCode : Phase → State → ℕ
+overCode p s = pick (noneLeft s) 0x18 0x48 + phaseNumber p
 
 -- "With none left, or with another phase, it is Reported"
-unfoldable pub infoOver : ℕ → State → Reply
-infoOver p s = unlessInterrupt s (reports (endingWith (overCode p s) (setReported (Phase p) s)))
+unfoldable pub infoOver : Phase → State → Reply
+infoOver p s = unlessInterrupt s (reports (endingWith (overCode p s) (setReported (Was p) s)))
 
 -- "A Request of the phase under transfer with bytes left .." The phase under transfer is the reported one: the command began
 -- with it, and the next report ends the command.
-unfoldable pub infoRequest : ℕ → ℕ → Bool → State → Reply
+unfoldable pub infoRequest : Phase → ℕ → Bool → State → Reply
 infoRequest p b bad s =
-    pick (both (isPhase p (s .wire .reported)) (not (noneLeft s)))
+    pick (both (isNoted p (s .wire .reported)) (not (noneLeft s)))
     (pick (comesIn p) (infoIn p b bad s) (infoOut p s))
     (infoOver p s)
 

@@ -58,10 +58,22 @@ pub enum Direction {
     Out,
 }
 
+// The phase of a Request, 0 to 7: MSG, C/D and I/O as 4, 2 and 1.
+pub enum Phase {
+    DataOut,
+    DataIn,
+    CommandOut,
+    StatusIn,
+    UnspecifiedOut,
+    UnspecifiedIn,
+    MessageOut,
+    MessageIn,
+}
+
 // A phase that the controller keeps in mind, or none.
 pub enum Noted {
     NoPhase,
-    Phase(u8),
+    Was(Phase),
 }
 
 // Registers 00 to 16h: Own ID, Control, Timeout Period, CDB 1 to 12 (03 to 0Eh), Target LUN (0Fh), Command Phase (10h),
