@@ -18,10 +18,10 @@ unfolding Choice.pick Choice.both Choice.either Phases.phaseOf Lines.isOn Lines.
     Lines.identify Lines.lineOf Lines.ones Lines.qualifies Lines.areTwo Lines.lowest Lines.without
     Lines.otherIdentity Lines.sourceAfter Fifo.waiting Fifo.isEmpty Fifo.hasRoom Fifo.front Fifo.pop Fifo.push
     Count.left Count.noneLeft Count.isLast Count.lowered Count.loaded Count.meansOne Count.loadedInfo
-    Interrupts.outgoingDropped Interrupts.raise Interrupts.unread Interrupts.endingWith Interrupts.settledBy
-    Interrupts.settled Interrupts.unlessInterrupt TransferInfo.dbr TransferInfo.halted TransferInfo.unlessHalted
-    TransferInfo.parityNoted TransferInfo.atnAfter TransferInfo.infoOut TransferInfo.takenIn
-    TransferInfo.infoTaken TransferInfo.infoIn TransferInfo.overCode TransferInfo.infoOver
+    Interrupts.busy Interrupts.outgoingDropped Interrupts.raise Interrupts.unread Interrupts.endingWith
+    Interrupts.settledBy Interrupts.settled Interrupts.unlessInterrupt TransferInfo.dbr TransferInfo.halted
+    TransferInfo.unlessHalted TransferInfo.parityNoted TransferInfo.atnAfter TransferInfo.infoOut
+    TransferInfo.takenIn TransferInfo.infoTaken TransferInfo.infoIn TransferInfo.overCode TransferInfo.infoOver
     TransferInfo.infoRequest TransferInfo.infoFreeCode SelectAndTransfer.sizeOf SelectAndTransfer.size
     SelectAndTransfer.firstStage SelectAndTransfer.nextStage SelectAndTransfer.stageOf
     SelectAndTransfer.unexpected SelectAndTransfer.sendIdentify SelectAndTransfer.sendCommand

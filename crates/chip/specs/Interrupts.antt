@@ -47,7 +47,7 @@ isRunning TransferWithoutAtn = true
 isRunning TransferInfo = true
 
 -- "BSY (a Level II command runs)"; in an ending "BSY stays"
-abbrev pub busy : State → Bool
+unfoldable pub busy : State → Bool
 busy s = either (isRunning (s .transfer .running)) (ends s)
 
 -- INT with a code, and nothing else

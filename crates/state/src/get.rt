@@ -1,0 +1,58 @@
+// The fields that are enums or structs, read off a state.
+ghost use mathlib.Core.Path.{_≡_};
+use chip::Connection;
+use chip::Direction;
+use chip::Identity;
+use chip::Noted;
+use chip::Pending;
+use chip::Running;
+use chip::State;
+
+pub fn pending(s: State) -> Pending
+    ensures { λ r. ⌜ r ≡ s .status .pending ⌝ }
+{
+    let part = s.status;
+    part.pending
+}
+
+pub fn running(s: State) -> Running
+    ensures { λ r. ⌜ r ≡ s .transfer .running ⌝ }
+{
+    let part = s.transfer;
+    part.running
+}
+
+pub fn direction(s: State) -> Direction
+    ensures { λ r. ⌜ r ≡ s .transfer .direction ⌝ }
+{
+    let part = s.transfer;
+    part.direction
+}
+
+pub fn connection(s: State) -> Connection
+    ensures { λ r. ⌜ r ≡ s .wire .connection ⌝ }
+{
+    let part = s.wire;
+    part.connection
+}
+
+pub fn reported(s: State) -> Noted
+    ensures { λ r. ⌜ r ≡ s .wire .reported ⌝ }
+{
+    let part = s.wire;
+    part.reported
+}
+
+pub fn last(s: State) -> Noted
+    ensures { λ r. ⌜ r ≡ s .wire .last ⌝ }
+{
+    let part = s.wire;
+    part.last
+}
+
+pub fn identity(s: State) -> Identity
+    ensures { λ r. ⌜ r ≡ s .wire .identity ⌝ }
+{
+    let part = s.wire;
+    part.identity
+}
