@@ -1,7 +1,7 @@
 -- All calls as one type, one step over it, and running a list of calls.
 -- Paper: "Order of checks: 3 everywhere first"; "Bad number is a bad state image, a phase above 7, a parity or read/write mark above 1,
 -- or any other operand above 255."
-use mathlib.Core.Bool.{Bool, true, false}
+use mathlib.Core.Bool.{Bool, true}
 use mathlib.Core.List.{List, [], _∷_}
 use Prim.Native.Nat.{ℕ}
 use lib.Dec.{eqb, ltb}

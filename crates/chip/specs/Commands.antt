@@ -23,7 +23,7 @@ use Rattle.chip.specs.declared.Noted.{Noted}
 use Rattle.chip.specs.declared.Noted.the-variants.{NoPhase, Was}
 use Rattle.chip.specs.declared.Phase.{Phase}
 use Rattle.chip.specs.declared.Phase.the-variants.{MessageOut}
-use Rattle.chip.specs.State.{empty, cleared, nothingRuns, apart, setFifo, setTransfer, setControl, setCommand, setLci, setPe, setPending, setRunning, setDirection, setConnection, setAtn, setAck, setReported, setElapsed}
+use Rattle.chip.specs.State.{empty, cleared, nothingRuns, apart, setFifo, setControl, setCommand, setLci, setPe, setPending, setRunning, setDirection, setConnection, setAtn, setAck, setReported, setElapsed}
 use Rattle.chip.specs.Answers.{done, ignored}
 use Rattle.chip.specs.Lines.{isSingle, codeOf, ownIdentity, withIdi}
 use Rattle.chip.specs.Phases.{phaseNumber, comesIn}

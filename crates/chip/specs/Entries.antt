@@ -1,11 +1,10 @@
 -- A call on a lent image, as C makes it: the answer's number in bits 0 to 7, its value from bit 8 up.
 -- Paper: "Another length, or bytes that are no state's image, is Bad number."
-use mathlib.Core.Bool.{Bool, true, false}
-use mathlib.Core.List.{List, []}
+use mathlib.Core.List.{List}
 use Prim.Native.Nat.{ℕ, _+_, _*_}
 use Rattle.chip.specs.Choice.{pick}
 use Rattle.chip.specs.declared.Answer.{Answer}
-use Rattle.chip.specs.declared.Answer.the-variants.{Done, BadNumber}
+use Rattle.chip.specs.declared.Answer.the-variants.{BadNumber}
 use Rattle.chip.specs.Answers.{number, value}
 use Rattle.chip.specs.Calls.{Call, Outcome, step, lentBy}
 use Rattle.chip.specs.Image.{imageOf, stateOf, isImage}

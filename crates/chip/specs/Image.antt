@@ -1,7 +1,7 @@
 -- The image of a state: 53 bytes, of which the first 25 are registers 00 to 18h at their addresses (docs/IMAGE.md).
 -- Paper: "The state is lent as an image of one fixed length, one image per state, its form and field ranges written in docs/.
 -- Another length, or bytes that are no state's image, is Bad number."
-use mathlib.Core.Bool.{Bool, true, false}
+use mathlib.Core.Bool.{Bool, true}
 use mathlib.Core.List.{List, [], _∷_, _++_}
 use Prim.Native.Nat.{ℕ, _+_, _-_, _*_, _/_, _%_}
 use lib.Dec.{eqb, ltb}

@@ -1,7 +1,6 @@
 -- Interrupts and endings. Paper: the section of that name, sentence by sentence.
 use mathlib.Core.Bool.{Bool, true, false, not}
 use Prim.Native.Nat.{ℕ}
-use lib.Dec.{ltb}
 use Rattle.chip.specs.Choice.{pick, both, either}
 use Rattle.chip.specs.declared.State.{State}
 use Rattle.chip.specs.declared.Reply.{Reply}

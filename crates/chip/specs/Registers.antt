@@ -1,8 +1,8 @@
 -- What the host does: the pointer, auxiliary status, the registers, the Data register, block moves.
 -- Paper: the section "Registers (001)", and of "The answers" the sentences on a block move.
-use mathlib.Core.Bool.{Bool, true, false, not}
+use mathlib.Core.Bool.{Bool, not}
 use mathlib.Core.List.{List, [], _∷_}
-use Prim.Native.Nat.{ℕ, zero, suc, _+_, _-_, _*_, _/_, _%_}
+use Prim.Native.Nat.{ℕ, suc, _+_, _-_, _*_, _/_, _%_}
 use lib.Dec.{eqb, ltb, leb}
 use lib.ListN.{getD, set}
 use Rattle.chip.specs.Choice.{pick, both, either}
@@ -135,7 +135,7 @@ andThen b m = record { number = suc (m .number); state = m .state; bytes = b ∷
 abbrev pub stopped : List ℕ → State → Moved
 stopped l s = record { number = 0; state = s; bytes = l }
 
--- what a single access does to a block that has come to the byte b: go on where it is Done, else stop
+-- what a block does after a single access: go on where it is Done, else stop
 abbrev pub goOn : Answer → (ℕ → Moved) → Moved → Moved
 goOn (Done v) on stop = on v
 goOn Held on stop = stop

@@ -1,5 +1,5 @@
 -- Select-And-Transfer by its phase register, and what a Free does to it. Paper: the section "Select-And-Transfer (001)".
-use mathlib.Core.Bool.{Bool, true, false, not}
+use mathlib.Core.Bool.{Bool, true, false}
 use Prim.Native.Nat.{ℕ, _+_, _-_, _/_}
 use lib.Dec.{eqb, ltb}
 use lib.ListN.{getD}
@@ -9,7 +9,6 @@ use Rattle.chip.specs.declared.Reply.{Reply}
 use Rattle.chip.specs.declared.Stage.{Stage}
 use Rattle.chip.specs.declared.Stage.the-variants.{SendIdentify, SendCommand, Body, AfterData, Disconnecting, Reselected, AfterStatus, Elsewhere}
 use Rattle.chip.specs.declared.Running.{Running}
-use Rattle.chip.specs.declared.Running.the-variants.{Idle, SelectWithAtn, SelectWithoutAtn, TransferWithAtn, TransferWithoutAtn, TransferInfo}
 use Rattle.chip.specs.declared.Direction.{Direction}
 use Rattle.chip.specs.declared.Direction.the-variants.{Unfixed, In, Out}
 use Rattle.chip.specs.declared.Phase.{Phase}
@@ -44,8 +43,8 @@ nextStage x n = pick (ltb x n) (SendCommand x) (pick (eqb x n) Body Elsewhere)
 
 -- "Next by phase register": what the register stands for, in a run with or without ATN, for a command of n bytes
 unfoldable pub stageOf : Bool → ℕ → ℕ → Stage
-stageOf atn phase n =
-    pick (eqb phase 0x10) (pick atn SendIdentify (firstStage n))
+stageOf withAtn phase n =
+    pick (eqb phase 0x10) (pick withAtn SendIdentify (firstStage n))
     (pick (eqb phase 0x20) (firstStage n)
     (pick (eqb phase 0x30) (firstStage n)
     (pick (both (ltb 0x30 phase) (ltb phase 0x40)) (nextStage (phase - 0x30) n)
@@ -170,7 +169,7 @@ requestAt Elsewhere p b bad s = unexpected p s
 
 -- a Request while a Select-And-Transfer runs, with or without ATN
 unfoldable pub transferRequest : Bool → Phase → ℕ → Bool → State → Reply
-transferRequest atn p b bad s = requestAt (stageOf atn (s .registers .phase) (size s)) p b bad s
+transferRequest withAtn p b bad s = requestAt (stageOf withAtn (s .registers .phase) (size s)) p b bad s
 
 -- "42h: Free gives 43h, Disconnected; with IDI, ending with 85h; without it, an outgoing FIFO stays, an incoming one is read out
 -- first, which counts as an ending under every rule, Abort's too, but raises no code; then it waits for reselection."
@@ -186,7 +185,7 @@ unfoldable pub transferFree : State → State → Reply
 transferFree s t =
     pick (eqb (s .registers .phase) 0x42) (freeAfterDisconnect s t) (unlessInterrupt s (done 0 (endingWith 0x41 t)))
 
--- "From Disconnected, phase 00." Every selection starts with no time passed (Commands.selecting does the rest).
+-- "From Disconnected, phase 00."
 unfoldable pub fromDisconnected : State → State
 fromDisconnected s = setPhase 0x00 (loaded s)
 

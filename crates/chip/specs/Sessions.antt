@@ -1,7 +1,6 @@
 -- The paper's sessions at both sides of each limit, 1 to 8 (the marked ones) and 9, as one table.
 -- A line is a call with the answer that the paper names, or a register with the byte that it shows.
 -- proofs/Sessions.antt has the claim: what the definitions play from a fresh state is the table, line for line.
-use mathlib.Core.Bool.{Bool, true, false}
 use mathlib.Core.List.{List, [], _∷_, _++_}
 use Prim.Native.Nat.{ℕ, zero, suc}
 use Rattle.chip.specs.declared.State.{State}

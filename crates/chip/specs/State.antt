@@ -1,6 +1,6 @@
 -- The state: the fresh one, and a setter for each field that a rule changes.
 -- Paper: "A fresh state is all zero, Disconnected, nothing pending."
-use mathlib.Core.Bool.{Bool, true, false}
+use mathlib.Core.Bool.{Bool, false}
 use mathlib.Core.List.{List}
 use lib.ListN.{replicate}
 use Prim.Native.Nat.{ℕ}
@@ -12,7 +12,7 @@ use Rattle.chip.specs.declared.Transfer.{Transfer}
 use Rattle.chip.specs.declared.Wire.{Wire}
 use Rattle.chip.specs.declared.Identity.{Identity}
 use Rattle.chip.specs.declared.Connection.{Connection}
-use Rattle.chip.specs.declared.Connection.the-variants.{Disconnected, Selecting, Waiting, Connected}
+use Rattle.chip.specs.declared.Connection.the-variants.{Disconnected}
 use Rattle.chip.specs.declared.Running.{Running}
 use Rattle.chip.specs.declared.Running.the-variants.{Idle}
 use Rattle.chip.specs.declared.Pending.{Pending}

@@ -1,4 +1,4 @@
--- Transfer Info, DBR, parity, and what a Free does to it. Paper: the section "Transfer Info (001)".
+-- Transfer Info, DBR and parity. Paper: the section "Transfer Info (001)".
 use mathlib.Core.Bool.{Bool, true, false, not}
 use Prim.Native.Nat.{ℕ, _+_}
 use lib.Dec.{ltb}
@@ -13,7 +13,7 @@ use Rattle.chip.specs.State.{setFifo, setPe, setAck, setAtn, setReported
 use Rattle.chip.specs.Answers.{done, held, reports}
 use Rattle.chip.specs.Phases.{phaseNumber, comesIn, isMessageOut, isMessageIn, isNoted}
 use Rattle.chip.specs.Lines.{hsp}
-use Rattle.chip.specs.Fifo.{isEmpty, hasRoom, front, pop, push}
+use Rattle.chip.specs.Fifo.{waits, isEmpty, hasRoom, front, pop, push}
 use Rattle.chip.specs.Count.{left, noneLeft, isLast, lowered}
 use Rattle.chip.specs.Interrupts.{endingWith, unlessInterrupt}
 
@@ -22,7 +22,7 @@ use Rattle.chip.specs.Interrupts.{endingWith, unlessInterrupt}
 abbrev pub dbrBy : Direction → State → Bool
 dbrBy Unfixed s = false
 dbrBy In s = not (isEmpty (s .fifo))
-dbrBy Out s = both (ltb (s .fifo .held) (left s)) (hasRoom (s .fifo))
+dbrBy Out s = both (ltb (waits (s .fifo)) (left s)) (hasRoom (s .fifo))
 
 unfoldable pub dbr : State → Bool
 dbr s = dbrBy (s .transfer .direction) s

@@ -11,7 +11,7 @@ pub struct Lun {
     pub number: u8,
 }
 
-// The nine answers, in the paper's order. Done carries the byte read or crossed, else 0.
+// The nine answers, in the paper's order. Done carries its value: the byte read or crossed, the number that a block moved, else 0.
 pub enum Answer {
     Done(u8),
     Held,
@@ -115,7 +115,7 @@ pub struct Transfer {
 }
 
 // The bus: connection, ATN, held ACK, the reported phase, the phase of the last Request answered Done or Reported since
-// connection, our identity, and the units of time that a selection has lasted.
+// connection, our identity, and the units of time that have added up while selecting.
 pub struct Wire {
     pub connection: Connection,
     pub atn: bool,

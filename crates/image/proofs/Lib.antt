@@ -1,3 +1,6 @@
 pub mod Lists
+pub mod Tests
 pub mod Zeros
 pub mod Forms
+pub mod Valid
+pub mod Places

@@ -1,28 +1,40 @@
--- Zeros in the FIFO's unused places, as the code tests them.
--- `zero-here`: a zero at i is passed over. `other-here`: anything else is found. `to-the-end`: a part up to the end is the rest.
+-- Zeros in the FIFO's unused places, as the code looks for them: an or of all bytes from a place on.
+-- `passed`: no byte before that place counts. `joined-in`: one from it on does.
 use mathlib.Core.Path.{_≡_, refl, ap, sym, _∙_}
 use mathlib.Core.Bool.{Bool, true, false}
-use mathlib.Core.List.{List, [], _∷_}
-use Prim.Native.Nat.{ℕ, _+_, _-_, _<_, _≤_}
+use mathlib.Core.List.{List, [], _∷_, _++_}
+use Prim.Native.Nat.{ℕ, zero, suc, _+_, _<_, _≤_}
 use native.Mathlib.Nat.{min-le-left}
 use native.Mathlib.Numerals.{add-one}
 use native.Mathlib.Omega.{arith}
+use lib.Bits.{bitOr, or-zero-l, or-add-and, and-le-r}
 use lib.Dec.{eqb}
-use lib.ListN.{length, getD, drop, take, length-drop, length-take}
-use lib.Seq.{drop-cons, take-all}
-use borrow.Author.Tests.{eq-eqb, ne-eqb}
+use lib.ListN.{length, getD, drop, take, length-take, drop-of-length-le}
+use lib.Seq.{take-suc, drop-append-le, length-take-le}
+use borrow.Author.Tests.{ne-eqb}
 use Rattle.chip.specs.Choice.{both}
 use Rattle.chip.specs.Image.{areZero}
+use Rattle.image.proofs.Tests.{both-true, both-assoc}
 
-pub zero-here : (s : List ℕ) (i : ℕ) → i < length s → getD s i 0 ≡ 0 → areZero (drop i s) ≡ areZero (drop (i + 1) s)
+or-zero : (a b : ℕ) → eqb (bitOr a b) 0 ≡ both (eqb a 0) (eqb b 0)
 unfolding both
-zero-here s i h e = rw (add-one, drop-cons s i 0 h, eq-eqb _ _ e)
+or-zero zero b = rw or-zero-l
+or-zero (suc a) b = rw (ne-eqb (suc a) 0 (λ e. omega arith)) (ne-eqb (bitOr (suc a) b) 0 (λ e. omega (arith, e, or-add-and (suc a) b, and-le-r (suc a) b)))
 
-pub other-here : (s : List ℕ) (i : ℕ) → i < length s → (getD s i 0 ≡ 0 → ⊥) → areZero (drop i s) ≡ false
+-- one byte more at the end
+longer : (l : List ℕ) (b : ℕ) → areZero (l ++ (b ∷ [])) ≡ both (areZero l) (eqb b 0)
 unfolding both
-other-here s i h e = rw (drop-cons s i 0 h, ne-eqb _ _ e)
+longer [] b = both-true (eqb b 0)
+longer (x ∷ l) b = rw (both-assoc, longer l b)
 
-pub to-the-end : (l : List ℕ) (n k : ℕ) → take (n - k) (drop k (take n l)) ≡ drop k (take n l)
-to-the-end l n k =
-    let m : length (take n l) ≤ n = rw length-take (min-le-left n (length l)) in
-    take-all (n - k) (drop k (take n l)) (rw length-drop (omega arith))
+module _ (s : List ℕ) (from : ℕ) where
+  pub passed : (i : ℕ) → i ≤ from → areZero (drop from (take i s)) ≡ true
+  passed i h =
+      let m : length (take i s) ≤ from = rw length-take (omega (arith, min-le-left i (length s))) in
+      ap areZero (drop-of-length-le (take i s) m)
+
+  pub joined-in : (i x : ℕ) → i < length s → from ≤ i → eqb x 0 ≡ areZero (drop from (take i s))
+      → eqb (bitOr x (getD s i 0)) 0 ≡ areZero (drop from (take (i + 1) s))
+  joined-in i x h k e =
+      let m : from ≤ length (take i s) = rw (length-take-le i s (omega arith)) k in
+      rw (add-one, take-suc s i 0 h, drop-append-le from (take i s) (getD s i 0 ∷ []) m, longer, or-zero, e)

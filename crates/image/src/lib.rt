@@ -27,53 +27,25 @@ pub fn is_image(image: &[u8]) -> bool
     if image.len() != 53 {
         return false;
     }
-    if image[26] >= 2 {
-        return false;
+    let ranges = (image[26] < 2)
+        & (image[27] < 2)
+        & (image[28] < 4)
+        & ((image[28] == 2) | (image[29] == 0))
+        & (image[30] < 4)
+        & (image[31] < 6)
+        & (image[32] < 3)
+        & (image[33] < 2)
+        & (image[34] < 2)
+        & (image[35] < 2)
+        & (image[36] < 9)
+        & (image[37] < 9)
+        & (image[38] < 8)
+        & (image[40] < 13);
+    if ranges {
+        let held = image[40] as usize;
+        return are_zero(&image[41..53], held);
     }
-    if image[27] >= 2 {
-        return false;
-    }
-    if image[28] >= 4 {
-        return false;
-    }
-    if image[28] != 2 {
-        if image[29] != 0 {
-            return false;
-        }
-    }
-    if image[30] >= 4 {
-        return false;
-    }
-    if image[31] >= 6 {
-        return false;
-    }
-    if image[32] >= 3 {
-        return false;
-    }
-    if image[33] >= 2 {
-        return false;
-    }
-    if image[34] >= 2 {
-        return false;
-    }
-    if image[35] >= 2 {
-        return false;
-    }
-    if image[36] >= 9 {
-        return false;
-    }
-    if image[37] >= 9 {
-        return false;
-    }
-    if image[38] >= 8 {
-        return false;
-    }
-    if image[40] >= 13 {
-        return false;
-    }
-    let held = image[40] as usize;
-    let bytes = &image[41..53];
-    are_zero(&bytes[held..12])
+    false
 }
 
 pub fn read(image: &[u8]) -> Reading

@@ -29,15 +29,17 @@ pub(crate) fn put(src: &[u8], at: usize, dst: &mut [u8])
     }
 }
 
-pub(crate) fn are_zero(s: &[u8]) -> bool
-    ensures { λ r. ⌜ r ≡ areZero (now (s .entry)) ⌝ }
+// No turn leaves early, so that a loop of known length becomes straight code.
+pub(crate) fn are_zero(s: &[u8], from: usize) -> bool
+    ensures { λ r. ⌜ r ≡ areZero (drop from (now (s .entry))) ⌝ }
 {
+    let mut x = 0u8;
     let mut i = 0;
     while i < s.len() {
-        if s[i] != 0 {
-            return false;
+        if from <= i {
+            x = x | s[i];
         }
         i += 1;
     }
-    true
+    x == 0
 }

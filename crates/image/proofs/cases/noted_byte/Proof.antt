@@ -18,9 +18,7 @@ phase-number-requires : tie.Need-phase-number-requires
 phase-number-requires c κs = search needs
 
 add-result : tie.Need-add-result
-add-result c =
-    let h : c .phase-number .result < 8 = rw (c .phase-number .ensures) (phase-below _) in
-    omega arith
+add-result c = omega (arith, c .phase-number .ensures, phase-below (c .before .before .p .given .0 .0))
 
 returns : tie.Need-returns
 returns c = search needs

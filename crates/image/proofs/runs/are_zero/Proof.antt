@@ -1,30 +1,31 @@
--- `image::runs::are_zero` meets its contract: at each turn the answer is that of the rest.
+-- `image::runs::are_zero` meets its contract: at each turn x is zero where the bytes passed are.
 use mathlib.Core.Path.{_≡_, refl, sym, ap, _∙_}
-use Prim.Native.Nat.{ℕ, _-_, _≤_, zero-le}
+use mathlib.Core.List.{List}
+use Prim.Native.Nat.{ℕ, _+_, _-_, _≤_, zero-le}
+use native.Mathlib.Nat.{le-antisymm}
 use native.Mathlib.Omega.{arith}
-use lib.ListN.{length, drop, drop-of-length-le}
+use mathlib.Core.Logic.{⊎-elim}
+use lib.Dec.{eqb}
+use lib.ListN.{length, drop, take}
+use lib.Seq.{take-length}
 use Rattle.chip.specs.Image.{areZero}
-use Rattle.image.proofs.Zeros.{zero-here, other-here}
+use Rattle.image.proofs.Zeros.{passed, joined-in}
 use Rattle.image.proofs.runs.are_zero.Statement.{statement}
 use Rattle.image.proofs.runs.are_zero.Tie as tie
+use Rattle.image.proofs.runs.are_zero.Reads as reads
+use Rattle.image.proofs.runs.are_zero.Lts as lts
 
 abbrev Inv-loop : tie.InvT-loop
-Inv-loop s i₀ i = (i ≤ length s) × (areZero s ≡ areZero (drop i s))
+Inv-loop s from x₀ i₀ x i = (i ≤ length s) × (eqb x 0 ≡ areZero (drop from (take i s)))
 
 abbrev μ-loop : tie.MeasureT-loop
-μ-loop s i₀ i = length s - i
+μ-loop s from x₀ i₀ x i = length s - i
 
 loop-holds : tie.Need-loop-holds Inv-loop μ-loop
-loop-holds c = (zero-le, refl)
+loop-holds c = (zero-le, sym (passed (c .args .s .now) (c .args .from) 0 zero-le))
 
-shared-slice-read-if1 : tie.Need-shared-slice-read-if1 Inv-loop μ-loop
-shared-slice-read-if1 c = omega arith
-
-returns : tie.Need-returns Inv-loop μ-loop
-returns c =
-    let b = c .before .before .before in
-    let s = b .before .args .s .now in
-    sym (b .loop .inv .1 ∙ other-here s (b .loop .i) (omega arith) (c .if1 .taken))
+shared-slice-read-x : tie.Need-shared-slice-read-x Inv-loop μ-loop
+shared-slice-read-x c = omega arith
 
 add-i : tie.Need-add-i Inv-loop μ-loop
 add-i c = omega arith
@@ -34,25 +35,26 @@ loop-less c = omega arith
 
 loop-again : tie.Need-loop-again Inv-loop μ-loop
 loop-again c =
-    let b = c .before .before .before in
+    let b = c .before .before in
     let s = b .before .args .s .now in
-    (omega arith, b .loop .inv .1 ∙ zero-here s (b .loop .i) (omega arith) (c .if1 .left))
+    let from = b .before .args .from in
+    let i = b .loop .i in
+    ⊎-elim
+    (λ w. (omega arith, ap (λ (x : ℕ). eqb x 0) (w .2) ∙ joined-in s from i (b .loop .x) (omega arith) (w .0 .taken) (b .loop .inv .1)))
+    (λ w. (
+      omega arith,
+      ap (λ (x : ℕ). eqb x 0) (w .1) ∙ b .loop .inv .1 ∙ passed s from i (omega (arith, w .0 .left)) ∙ sym (passed s from (i + 1) (omega (arith, w .0 .left))),
+    ))
+    (c .if1 .came)
 
-returns-2 : tie.Need-returns-2 Inv-loop μ-loop
-returns-2 c =
+returns : tie.Need-returns Inv-loop μ-loop
+returns c =
     let s = c .before .before .args .s .now in
-    sym (c .before .loop .inv .1 ∙ ap areZero (drop-of-length-le s (c .loop-test .left)))
+    let e : c .before .loop .i ≡ length s = omega arith in
+    c .before .loop .inv .1 ∙ ap (λ (n : ℕ). areZero (drop (c .before .before .args .from) (take n s))) e
+    ∙ ap (λ (r : List ℕ). areZero (drop (c .before .before .args .from) r)) (take-length s)
 
 pub are-zero-spec : {M : Type 1} → statement M
 are-zero-spec =
     tie.close
-    (tie.spec
-    Inv-loop
-    μ-loop
-    loop-holds
-    shared-slice-read-if1
-    returns
-    add-i
-    loop-less
-    loop-again
-    returns-2)
+    (tie.spec Inv-loop μ-loop loop-holds shared-slice-read-x add-i loop-less loop-again returns)

@@ -1,0 +1,69 @@
+// How a Select-And-Transfer begins, from Disconnected or as a resume.
+ghost use mathlib.Core.Path.{_≡_};
+ghost use Rattle.chip.specs.SelectAndTransfer.{ackAfterResume, fromDisconnected, isResumable, resumed};
+use crate::stage;
+use chip::Noted;
+use chip::Running;
+use chip::State;
+use endings::count;
+use endings::interrupts;
+use state::set;
+
+pub fn from_disconnected(s: State) -> State
+    ensures { λ r. ⌜ r ≡ fromDisconnected s ⌝ }
+{
+    set::phase(count::loaded(s), 0x00)
+}
+
+pub fn is_resumable(s: State) -> bool
+    ensures { λ r. ⌜ r ≡ isResumable s ⌝ }
+{
+    let phase = s.registers.phase;
+    if phase == 0x10 {
+        return stage::has_size(s);
+    }
+    if phase == 0x20 {
+        return stage::has_size(s);
+    }
+    if phase == 0x30 {
+        return stage::has_size(s);
+    }
+    if phase == 0x41 {
+        return true;
+    }
+    if phase == 0x42 {
+        return true;
+    }
+    if phase == 0x44 {
+        return true;
+    }
+    if phase == 0x45 {
+        return true;
+    }
+    if phase == 0x46 {
+        return true;
+    }
+    if phase == 0x50 {
+        return true;
+    }
+    phase == 0x60
+}
+
+fn ack_after_resume(s: State) -> bool
+    ensures { λ r. ⌜ r ≡ ackAfterResume s ⌝ }
+{
+    if s.registers.phase == 0x46 {
+        return s.wire.ack;
+    }
+    false
+}
+
+pub fn resumed(r: Running, s: State) -> State
+    ensures { λ x. ⌜ x ≡ resumed r s ⌝ }
+{
+    let t = set::ack(set::running(count::loaded(s), r), ack_after_resume(s));
+    if s.registers.phase == 0x60 {
+        return interrupts::ending_with(0x16, set::reported(t, Noted::NoPhase));
+    }
+    t
+}

@@ -1,0 +1,99 @@
+// What the phase register stands for, and the size of the command.
+ghost use mathlib.Core.Path.{_≡_};
+ghost use Rattle.chip.specs.Choice.{both};
+ghost use Rattle.chip.specs.SelectAndTransfer.{firstStage, hasSize, nextStage, size, sizeOf, stageOf};
+ghost use lib.Dec.{ltb};
+use chip::Stage;
+use chip::State;
+
+fn size_of(b: u8) -> u8
+    ensures { λ r. ⌜ r ≡ sizeOf b ⌝ }
+{
+    let group = b >> 5;
+    if group == 0 {
+        return 6;
+    }
+    if group == 1 {
+        return 10;
+    }
+    if group == 5 {
+        return 12;
+    }
+    0
+}
+
+pub fn size(s: State) -> u8
+    ensures { λ r. ⌜ r ≡ size s ⌝ }
+{
+    let registers = s.registers;
+    let cdb = registers.cdb;
+    size_of(cdb[0])
+}
+
+pub fn has_size(s: State) -> bool
+    ensures { λ r. ⌜ r ≡ hasSize s ⌝ }
+{
+    0 < size(s)
+}
+
+fn first_stage(n: u8) -> Stage
+    ensures { λ r. ⌜ r ≡ firstStage n ⌝ }
+{
+    if 0 < n {
+        return Stage::SendCommand(0);
+    }
+    Stage::Elsewhere
+}
+
+fn next_stage(x: u8, n: u8) -> Stage
+    ensures { λ r. ⌜ r ≡ nextStage x n ⌝ }
+{
+    if x < n {
+        return Stage::SendCommand(x);
+    }
+    if x == n {
+        return Stage::Body;
+    }
+    Stage::Elsewhere
+}
+
+pub fn stage_of(with_atn: bool, phase: u8, n: u8) -> Stage
+    ensures { λ r. ⌜ r ≡ stageOf with_atn phase n ⌝ }
+{
+    if phase == 0x10 {
+        if with_atn {
+            return Stage::SendIdentify;
+        }
+        return first_stage(n);
+    }
+    if phase == 0x20 {
+        return first_stage(n);
+    }
+    if phase == 0x30 {
+        return first_stage(n);
+    }
+    if 0x30 < phase {
+        if phase < 0x40 {
+            return next_stage(phase - 0x30, n);
+        }
+    }
+    if phase == 0x41 {
+        return Stage::Body;
+    }
+    if phase == 0x42 {
+        return Stage::Disconnecting;
+    }
+    if phase == 0x44 {
+        return Stage::Reselected;
+    }
+    if phase == 0x45 {
+        return Stage::Body;
+    }
+    if phase == 0x46 {
+        return Stage::AfterData;
+    }
+    if phase == 0x50 {
+        return Stage::AfterStatus;
+    }
+    Stage::Elsewhere
+}

@@ -1,0 +1,124 @@
+// Whether a command is valid, refused while busy, and what every command that is not ignored changes.
+ghost use mathlib.Core.Bool.{not};
+ghost use mathlib.Core.Path.{_≡_};
+ghost use Rattle.chip.specs.Choice.{both, either, pick};
+ghost use Rattle.chip.specs.Commands.{accepted, entryOf, isConnected, isPlace, isReady, isRefusedBusy, isSome, isTwo, isValid};
+ghost use Rattle.chip.specs.Interrupts.{busy, ends};
+ghost use Rattle.chip.specs.SelectAndTransfer.{hasSize, isResumable};
+use crate::table;
+use chip::Noted;
+use chip::State;
+use combination::resume;
+use combination::stage;
+use endings::interrupts;
+use state::get;
+use state::set;
+
+fn is_some(n: Noted) -> bool
+    ensures { λ r. ⌜ r ≡ isSome n ⌝ }
+{
+    match n {
+        Noted::NoPhase => false,
+        Noted::Was(_) => true,
+    }
+}
+
+// Abort.
+fn is_abortable(s: State) -> bool
+    ensures { λ r. ⌜ r ≡ both (busy s) (not (ends s)) ⌝ }
+{
+    if interrupts::busy(s) {
+        if interrupts::ends(s) {
+            return false;
+        }
+        return true;
+    }
+    false
+}
+
+fn is_on_the_bus(s: State) -> bool
+    ensures { λ r. ⌜ r ≡ isConnected (s .wire .connection) ⌝ }
+{
+    table::is_connected(get::connection(s))
+}
+
+// Select-And-Transfer.
+fn is_transferable(s: State) -> bool
+    ensures { λ r. ⌜ r ≡ pick (isConnected (s .wire .connection)) (isResumable s) (hasSize s) ⌝ }
+{
+    if is_on_the_bus(s) {
+        return resume::is_resumable(s);
+    }
+    stage::has_size(s)
+}
+
+// Transfer Info.
+fn is_informable(s: State) -> bool
+    ensures { λ r. ⌜ r ≡ both (not (s .wire .ack)) (isSome (s .wire .reported)) ⌝ }
+{
+    if s.wire.ack {
+        return false;
+    }
+    is_some(get::reported(s))
+}
+
+fn is_ready(c: u8, s: State) -> bool
+    ensures { λ r. ⌜ r ≡ isReady c s ⌝ }
+{
+    if c == 0x01 {
+        return is_abortable(s);
+    }
+    if c == 0x08 {
+        return is_transferable(s);
+    }
+    if c == 0x09 {
+        return is_transferable(s);
+    }
+    if c == 0x20 {
+        return is_informable(s);
+    }
+    true
+}
+
+fn is_in_place(c: u8, s: State) -> bool
+    ensures { λ r. ⌜ r ≡ isPlace (entryOf c .place) (s .wire .connection) ⌝ }
+{
+    table::is_in_place(c, get::connection(s))
+}
+
+pub fn is_valid(c: u8, s: State) -> bool
+    ensures { λ r. ⌜ r ≡ isValid c s ⌝ }
+{
+    if is_in_place(c, s) {
+        return is_ready(c, s);
+    }
+    false
+}
+
+// Level II, or not valid now.
+fn is_out_of_turn(c: u8, s: State) -> bool
+    ensures { λ r. ⌜ r ≡ either (isTwo (entryOf c .level)) (not (isValid c s)) ⌝ }
+{
+    if table::is_level_two(c) {
+        return true;
+    }
+    if is_valid(c, s) {
+        return false;
+    }
+    true
+}
+
+pub fn is_refused_busy(c: u8, s: State) -> bool
+    ensures { λ r. ⌜ r ≡ isRefusedBusy c s ⌝ }
+{
+    if interrupts::busy(s) {
+        return is_out_of_turn(c, s);
+    }
+    false
+}
+
+pub fn accepted(b: u8, s: State) -> State
+    ensures { λ r. ⌜ r ≡ accepted b s ⌝ }
+{
+    set::command(set::lci(set::pe(s, false), false), b)
+}

@@ -1,0 +1,15 @@
+-- `endings::count::none_left` meets its contract: each way through the code is the definition's own way.
+use Rattle.chip.specs.Count.{noneLeft}
+use borrow.Author.Needs.{needs}
+use Rattle.endings.proofs.count.none_left.Statement.{statement}
+use Rattle.endings.proofs.count.none_left.Tie as tie
+
+left-requires : tie.Need-left-requires
+left-requires c κs = search needs
+
+returns : tie.Need-returns
+unfolding noneLeft
+returns c = simp (c .left .ensures)
+
+pub none-left-spec : {M : Type 1} → statement M
+none-left-spec = tie.close (tie.spec left-requires returns)

@@ -1,0 +1,12 @@
+-- `endings::fifo::has_room` meets its contract: each way through the code is the definition's own way.
+use mathlib.Core.Path.{refl}
+use Rattle.chip.specs.Fifo.{hasRoom}
+use Rattle.endings.proofs.fifo.has_room.Statement.{statement}
+use Rattle.endings.proofs.fifo.has_room.Tie as tie
+
+returns : tie.Need-returns
+unfolding hasRoom
+returns c = refl
+
+pub has-room-spec : {M : Type 1} → statement M
+has-room-spec = tie.close (tie.spec returns)

@@ -1,0 +1,12 @@
+-- `endings::fifo::is_empty` meets its contract: each way through the code is the definition's own way.
+use mathlib.Core.Path.{refl}
+use Rattle.chip.specs.Fifo.{isEmpty}
+use Rattle.endings.proofs.fifo.is_empty.Statement.{statement}
+use Rattle.endings.proofs.fifo.is_empty.Tie as tie
+
+returns : tie.Need-returns
+unfolding isEmpty
+returns c = refl
+
+pub is-empty-spec : {M : Type 1} → statement M
+is-empty-spec = tie.close (tie.spec returns)

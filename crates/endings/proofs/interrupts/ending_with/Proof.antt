@@ -1,0 +1,28 @@
+-- `endings::interrupts::ending_with` meets its contract: each way through the code is the definition's own way.
+use mathlib.Core.Path.{sym, _∙_}
+use Rattle.chip.specs.Interrupts.{endingWith}
+use Rattle.chip.specs.Choice.{pick}
+use borrow.Author.Needs.{needs}
+use Rattle.endings.proofs.interrupts.ending_with.Statement.{statement}
+use Rattle.endings.proofs.interrupts.ending_with.Tie as tie
+
+unread-requires : tie.Need-unread-requires
+unread-requires c κs = search needs
+
+pending-requires : tie.Need-pending-requires
+pending-requires c κs = search needs
+
+returns : tie.Need-returns
+unfolding endingWith pick
+returns c = simp (sym (c .before .before .unread .ensures) ∙ (c .before .if1 .taken), c .pending .ensures)
+
+raise-requires : tie.Need-raise-requires
+raise-requires c κs = search needs
+
+returns-2 : tie.Need-returns-2
+unfolding endingWith pick
+returns-2 c = simp (sym (c .before .before .unread .ensures) ∙ (c .before .if1 .left), c .raise .ensures)
+
+pub ending-with-spec : {M : Type 1} → statement M
+ending-with-spec =
+    tie.close (tie.spec unread-requires pending-requires returns raise-requires returns-2)

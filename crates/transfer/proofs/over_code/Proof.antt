@@ -1,0 +1,28 @@
+-- `transfer::over_code` meets its contract: each way through the code is the definition's own way.
+use mathlib.Core.Path.{sym, _∙_}
+use Rattle.chip.specs.TransferInfo.{overCode}
+use Rattle.chip.specs.Choice.{pick}
+use borrow.Author.Needs.{needs}
+use Rattle.transfer.proofs.over_code.Statement.{statement}
+use Rattle.transfer.proofs.over_code.Tie as tie
+
+none-left-requires : tie.Need-none-left-requires
+none-left-requires c κs = search needs
+
+over-requires : tie.Need-over-requires
+over-requires c κs = search needs
+
+returns : tie.Need-returns
+unfolding overCode pick
+returns c = simp (sym (c .before .before .none-left .ensures) ∙ (c .before .if1 .taken), c .over .ensures)
+
+unexpected-requires : tie.Need-unexpected-requires
+unexpected-requires c κs = search needs
+
+returns-2 : tie.Need-returns-2
+unfolding overCode pick
+returns-2 c = simp (sym (c .before .before .none-left .ensures) ∙ (c .before .if1 .left), c .unexpected .ensures)
+
+pub over-code-spec : {M : Type 1} → statement M
+over-code-spec =
+    tie.close (tie.spec none-left-requires over-requires returns unexpected-requires returns-2)
