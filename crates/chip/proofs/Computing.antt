@@ -29,9 +29,10 @@ unfolding Choice.pick Choice.both Choice.either Phases.phaseOf Lines.isOn Lines.
     SelectAndTransfer.dataIn SelectAndTransfer.unlessNoneLeft SelectAndTransfer.takeStatus
     SelectAndTransfer.takeSave SelectAndTransfer.takeDisconnect SelectAndTransfer.takeMessage
     SelectAndTransfer.bodyRequest SelectAndTransfer.lateRequest SelectAndTransfer.takeIdentify
-    SelectAndTransfer.takeComplete SelectAndTransfer.requestAt SelectAndTransfer.transferRequest
-    SelectAndTransfer.freeAfterDisconnect SelectAndTransfer.transferFree SelectAndTransfer.fromDisconnected
-    SelectAndTransfer.hasSize SelectAndTransfer.isResumable SelectAndTransfer.ackAfterResume
+    SelectAndTransfer.completed SelectAndTransfer.takeComplete SelectAndTransfer.requestAt
+    SelectAndTransfer.transferRequest SelectAndTransfer.freeToWait SelectAndTransfer.freeAfterDisconnect
+    SelectAndTransfer.transferFree SelectAndTransfer.fromDisconnected SelectAndTransfer.hasSize
+    SelectAndTransfer.isLate SelectAndTransfer.isResumable SelectAndTransfer.ackAfterResume
     SelectAndTransfer.resumed Commands.table Commands.entryOf Commands.isReady Commands.isValid Commands.reset
     Commands.aborted Commands.disconnected Commands.selecting Commands.transferring Commands.informing
     Commands.carriedOut Commands.accepted Commands.isRefusedBusy Commands.commanded Registers.pointerRead

@@ -41,10 +41,11 @@ firstStage n = pick (ltb 0 n) (SendCommand 0) Elsewhere
 unfoldable pub nextStage : ℕ → ℕ → Stage
 nextStage x n = pick (ltb x n) (SendCommand x) (pick (eqb x n) Body Elsewhere)
 
--- "Next by phase register": what the register stands for, in a run with or without ATN, for a command of n bytes
+-- "Next by phase register": what the register stands for, in a run that identifies itself (08) or not (09),
+-- for a command of n bytes
 unfoldable pub stageOf : Bool → ℕ → ℕ → Stage
-stageOf withAtn phase n =
-    pick (eqb phase 0x10) (pick withAtn SendIdentify (firstStage n))
+stageOf identifies phase n =
+    pick (eqb phase 0x10) (pick identifies SendIdentify (firstStage n))
     (pick (eqb phase 0x20) (firstStage n)
     (pick (eqb phase 0x30) (firstStage n)
     (pick (both (ltb 0x30 phase) (ltb phase 0x40)) (nextStage (phase - 0x30) n)
@@ -149,12 +150,13 @@ takeIdentify p b bad s =
     (unexpected p s)
 
 -- "50h: Message In 00 gives 60h, ending with 16h." 16h leaves no phase reported.
+unfoldable pub completed : Bool → State → Reply
+completed bad s =
+    unlessHalted bad s
+    (unlessInterrupt s (done 0x00 (endingWith 0x16 (setReported NoPhase (setPhase 0x60 (parityNoted bad s))))))
+
 unfoldable pub takeComplete : Phase → ℕ → Bool → State → Reply
-takeComplete p b bad s =
-    pick (both (isMessageIn p) (eqb b 0x00))
-    (unlessHalted bad s
-    (unlessInterrupt s (done 0x00 (endingWith 0x16 (setReported NoPhase (setPhase 0x60 (parityNoted bad s)))))))
-    (unexpected p s)
+takeComplete p b bad s = pick (both (isMessageIn p) (eqb b 0x00)) (completed bad s) (unexpected p s)
 
 -- a Request by what the phase register stands for
 unfoldable pub requestAt : Stage → Phase → ℕ → Bool → State → Reply
@@ -169,21 +171,22 @@ requestAt Elsewhere p b bad s = unexpected p s
 
 -- a Request while a Select-And-Transfer runs, with or without ATN
 unfoldable pub transferRequest : Bool → Phase → ℕ → Bool → State → Reply
-transferRequest withAtn p b bad s = requestAt (stageOf withAtn (s .registers .phase) (size s)) p b bad s
+transferRequest identifies p b bad s = requestAt (stageOf identifies (s .registers .phase) (size s)) p b bad s
 
 -- "42h: Free gives 43h, Disconnected; with IDI, ending with 85h; without it, an outgoing FIFO stays, an incoming one is read out
 -- first, which counts as an ending under every rule, Abort's too, but raises no code; then it waits for reselection."
--- t is s with the bus free.
+-- t is s with the bus free and phase 43h.
+unfoldable pub freeToWait : State → State → Reply
+freeToWait s t =
+    pick (unread s) (unlessInterrupt s (done 0 (setPending ReadOut t))) (done 0 (setConnection Waiting t))
+
 unfoldable pub freeAfterDisconnect : State → State → Reply
-freeAfterDisconnect s t =
-    pick (idi s) (unlessInterrupt s (done 0 (endingWith 0x85 (setPhase 0x43 t))))
-    (pick (unread s) (unlessInterrupt s (done 0 (setPending ReadOut (setPhase 0x43 t))))
-    (done 0 (setConnection Waiting (setPhase 0x43 t))))
+freeAfterDisconnect s t = pick (idi s) (unlessInterrupt s (done 0 (endingWith 0x85 t))) (freeToWait s t)
 
 -- "a Free elsewhere: Disconnected, ending with 41h"
 unfoldable pub transferFree : State → State → Reply
 transferFree s t =
-    pick (eqb (s .registers .phase) 0x42) (freeAfterDisconnect s t) (unlessInterrupt s (done 0 (endingWith 0x41 t)))
+    pick (eqb (s .registers .phase) 0x42) (freeAfterDisconnect s (setPhase 0x43 t)) (unlessInterrupt s (done 0 (endingWith 0x41 t)))
 
 -- "From Disconnected, phase 00."
 unfoldable pub fromDisconnected : State → State
@@ -194,16 +197,18 @@ unfoldable pub hasSize : State → Bool
 hasSize s = ltb 0 (size s)
 
 -- "Resume .. accepts 10h, 20h, 30h, 41h, 42h, 44h, 45h, 46h, 50h, 60h; else 40h."
+unfoldable pub isLate : ℕ → Bool
+isLate phase =
+    either (eqb phase 0x41)
+    (either (eqb phase 0x42)
+    (either (eqb phase 0x44)
+    (either (eqb phase 0x45) (either (eqb phase 0x46) (either (eqb phase 0x50) (eqb phase 0x60))))))
+
 unfoldable pub isResumable : State → Bool
 isResumable s =
     pick (either (eqb (s .registers .phase) 0x10) (either (eqb (s .registers .phase) 0x20) (eqb (s .registers .phase) 0x30)))
     (hasSize s)
-    (either (eqb (s .registers .phase) 0x41)
-    (either (eqb (s .registers .phase) 0x42)
-    (either (eqb (s .registers .phase) 0x44)
-    (either (eqb (s .registers .phase) 0x45)
-    (either (eqb (s .registers .phase) 0x46)
-    (either (eqb (s .registers .phase) 0x50) (eqb (s .registers .phase) 0x60)))))))
+    (isLate (s .registers .phase))
 
 -- "It releases ACK except at 46h"
 unfoldable pub ackAfterResume : State → Bool

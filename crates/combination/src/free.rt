@@ -1,6 +1,6 @@
 // What a Free does to a Select-And-Transfer. t is s with the bus free.
 ghost use mathlib.Core.Path.{_≡_};
-ghost use Rattle.chip.specs.SelectAndTransfer.{freeAfterDisconnect, transferFree};
+ghost use Rattle.chip.specs.SelectAndTransfer.{freeAfterDisconnect, freeToWait, transferFree};
 use chip::Connection;
 use chip::Pending;
 use chip::Reply;
@@ -9,30 +9,35 @@ use endings::interrupts;
 use state::answers;
 use state::set;
 
-fn free_after_disconnect(s: State, t: State) -> Reply
-    ensures { λ r. ⌜ r ≡ freeAfterDisconnect s t ⌝ }
+fn free_to_wait(s: State, t: State) -> Reply
+    ensures { λ r. ⌜ r ≡ freeToWait s t ⌝ }
 {
-    let u = set::phase(t, 0x43);
-    if lines::idi(s) {
-        if interrupts::interrupted(s) {
-            return answers::held(s);
-        }
-        return answers::done(0, interrupts::ending_with(0x85, u));
-    }
     if interrupts::unread(s) {
         if interrupts::interrupted(s) {
             return answers::held(s);
         }
-        return answers::done(0, set::pending(u, Pending::ReadOut));
+        return answers::done(0, set::pending(t, Pending::ReadOut));
     }
-    answers::done(0, set::connection(u, Connection::Waiting))
+    answers::done(0, set::connection(t, Connection::Waiting))
+}
+
+fn free_after_disconnect(s: State, t: State) -> Reply
+    ensures { λ r. ⌜ r ≡ freeAfterDisconnect s t ⌝ }
+{
+    if lines::idi(s) {
+        if interrupts::interrupted(s) {
+            return answers::held(s);
+        }
+        return answers::done(0, interrupts::ending_with(0x85, t));
+    }
+    free_to_wait(s, t)
 }
 
 pub fn transfer_free(s: State, t: State) -> Reply
     ensures { λ r. ⌜ r ≡ transferFree s t ⌝ }
 {
     if s.registers.phase == 0x42 {
-        return free_after_disconnect(s, t);
+        return free_after_disconnect(s, set::phase(t, 0x43));
     }
     if interrupts::interrupted(s) {
         return answers::held(s);

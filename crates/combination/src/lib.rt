@@ -158,10 +158,10 @@ fn late_request(p: Phase, b: u8, bad: bool, s: State) -> Reply
     }
 }
 
-pub fn transfer_request(with_atn: bool, p: Phase, b: u8, bad: bool, s: State) -> Reply
-    ensures { λ r. ⌜ r ≡ transferRequest with_atn p b bad s ⌝ }
+pub fn transfer_request(identifies: bool, p: Phase, b: u8, bad: bool, s: State) -> Reply
+    ensures { λ r. ⌜ r ≡ transferRequest identifies p b bad s ⌝ }
 {
-    let stage = stage::stage_of(with_atn, s.registers.phase, stage::size(s));
+    let stage = stage::stage_of(identifies, s.registers.phase, stage::size(s));
     match stage {
         Stage::SendIdentify => send_identify(p, s),
         Stage::SendCommand(x) => send_command(x, p, s),

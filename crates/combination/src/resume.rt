@@ -1,6 +1,8 @@
 // How a Select-And-Transfer begins, from Disconnected or as a resume.
 ghost use mathlib.Core.Path.{_≡_};
-ghost use Rattle.chip.specs.SelectAndTransfer.{ackAfterResume, fromDisconnected, isResumable, resumed};
+ghost use lib.Dec.{eqb};
+ghost use Rattle.chip.specs.Choice.{either};
+ghost use Rattle.chip.specs.SelectAndTransfer.{ackAfterResume, fromDisconnected, isLate, isResumable, resumed};
 use crate::stage;
 use chip::Noted;
 use chip::Running;
@@ -15,19 +17,34 @@ pub fn from_disconnected(s: State) -> State
     set::phase(count::loaded(s), 0x00)
 }
 
-pub fn is_resumable(s: State) -> bool
-    ensures { λ r. ⌜ r ≡ isResumable s ⌝ }
+// The command has not been sent, so that its size counts.
+fn is_early(phase: u8) -> bool
+    ensures { λ r. ⌜ r ≡ either (eqb phase 0x10) (either (eqb phase 0x20) (eqb phase 0x30)) ⌝ }
 {
-    let phase = s.registers.phase;
     if phase == 0x10 {
-        return stage::has_size(s);
+        return true;
     }
     if phase == 0x20 {
-        return stage::has_size(s);
+        return true;
     }
-    if phase == 0x30 {
-        return stage::has_size(s);
+    phase == 0x30
+}
+
+fn is_at_the_end(phase: u8) -> bool
+    ensures { λ r. ⌜ r ≡ either (eqb phase 0x46) (either (eqb phase 0x50) (eqb phase 0x60)) ⌝ }
+{
+    if phase == 0x46 {
+        return true;
     }
+    if phase == 0x50 {
+        return true;
+    }
+    phase == 0x60
+}
+
+fn is_late(phase: u8) -> bool
+    ensures { λ r. ⌜ r ≡ isLate phase ⌝ }
+{
     if phase == 0x41 {
         return true;
     }
@@ -40,13 +57,17 @@ pub fn is_resumable(s: State) -> bool
     if phase == 0x45 {
         return true;
     }
-    if phase == 0x46 {
-        return true;
+    is_at_the_end(phase)
+}
+
+pub fn is_resumable(s: State) -> bool
+    ensures { λ r. ⌜ r ≡ isResumable s ⌝ }
+{
+    let phase = s.registers.phase;
+    if is_early(phase) {
+        return stage::has_size(s);
     }
-    if phase == 0x50 {
-        return true;
-    }
-    phase == 0x60
+    is_late(phase)
 }
 
 fn ack_after_resume(s: State) -> bool

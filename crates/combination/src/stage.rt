@@ -57,11 +57,11 @@ fn next_stage(x: u8, n: u8) -> Stage
     Stage::Elsewhere
 }
 
-pub fn stage_of(with_atn: bool, phase: u8, n: u8) -> Stage
-    ensures { λ r. ⌜ r ≡ stageOf with_atn phase n ⌝ }
+pub fn stage_of(identifies: bool, phase: u8, n: u8) -> Stage
+    ensures { λ r. ⌜ r ≡ stageOf identifies phase n ⌝ }
 {
     if phase == 0x10 {
-        if with_atn {
+        if identifies {
             return Stage::SendIdentify;
         }
         return first_stage(n);

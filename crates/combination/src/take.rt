@@ -4,7 +4,7 @@ ghost use mathlib.Core.Path.{_≡_};
 ghost use Rattle.chip.specs.Choice.{both};
 ghost use Rattle.chip.specs.Lines.{identify, lunOf};
 ghost use Rattle.chip.specs.Phases.{isMessageIn};
-ghost use Rattle.chip.specs.SelectAndTransfer.{takeComplete, takeDisconnect, takeIdentify, takeMessage, takeSave, takeStatus, unexpected};
+ghost use Rattle.chip.specs.SelectAndTransfer.{completed, takeComplete, takeDisconnect, takeIdentify, takeMessage, takeSave, takeStatus, unexpected};
 ghost use lib.Dec.{eqb};
 use chip::Noted;
 use chip::Phase;
@@ -102,21 +102,27 @@ fn is_complete(p: Phase, b: u8) -> bool
     false
 }
 
+fn completed(bad: bool, s: State) -> Reply
+    ensures { λ r. ⌜ r ≡ completed bad s ⌝ }
+{
+    if transfer::halts(bad, s) {
+        return transfer::halted(s);
+    }
+    if interrupts::interrupted(s) {
+        return answers::held(s);
+    }
+    let t = set::reported(
+        set::phase(transfer::parity_noted(bad, s), 0x60),
+        Noted::NoPhase,
+    );
+    answers::done(0x00, interrupts::ending_with(0x16, t))
+}
+
 pub fn complete(p: Phase, b: u8, bad: bool, s: State) -> Reply
     ensures { λ r. ⌜ r ≡ takeComplete p b bad s ⌝ }
 {
     if is_complete(p, b) {
-        if transfer::halts(bad, s) {
-            return transfer::halted(s);
-        }
-        if interrupts::interrupted(s) {
-            return answers::held(s);
-        }
-        let t = set::reported(
-            set::phase(transfer::parity_noted(bad, s), 0x60),
-            Noted::NoPhase,
-        );
-        return answers::done(0x00, interrupts::ending_with(0x16, t));
+        return completed(bad, s);
     }
     unexpected(p, s)
 }

@@ -4,3 +4,4 @@ pub mod Zeros
 pub mod Forms
 pub mod Valid
 pub mod Places
+pub mod Laws

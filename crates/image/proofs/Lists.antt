@@ -1,15 +1,17 @@
 -- Facts on lists and numbers alone, for the proofs of this room.
--- `stored`: a turn of a loop that copies into the middle of a list. `fetched`: one that copies out of it. `fetched-all`: the whole of that.
--- `joined`: three bytes joined by shifts are their sum. `four`: four runs laid one after the other into a list of their whole length are their join.
+-- `stored`: a turn of a loop that copies into the middle of a list. `fetched`: one that copies out of it, and `fetched-all` its end.
+-- `joined`: three bytes joined by shifts are their sum.
+-- `four`: four runs laid one after the other into a list of their whole length are their join.
+-- `run`, `run-is`: a part of a list, element by element. `seam`: a part and what follows it.
 use mathlib.Core.Path.{_≡_, refl, ap, sym, _∙_}
 use mathlib.Core.List.{List, [], _∷_, _++_, append-nil, append-assoc}
-use Prim.Native.Nat.{ℕ, _+_, _*_, _%_, _≤_, _<_}
+use Prim.Native.Nat.{ℕ, zero, suc, _+_, _*_, _%_, _≤_, _<_}
 use native.Mathlib.Nat.{zero-add, mod-eq-of-lt}
 use native.Mathlib.Numerals.{add-one}
 use native.Mathlib.Omega.{arith}
 use lib.Bits.{bitOr, or-shifted}
-use lib.ListN.{length, getD, set, take, drop, length-append, length-drop, drop-of-length-le}
-use lib.Seq.{paste, paste-suc, getD-drop, sets, sets-eq, take-at, take-length}
+use lib.ListN.{length, getD, set, take, drop, length-append, length-drop, drop-of-length-le, take-append-drop}
+use lib.Seq.{paste, paste-suc, getD-drop, sets, sets-eq, take-at, take-length, drop-cons, drop-drop}
 
 pub stored : (d d₀ s : List ℕ) (at j : ℕ) → d ≡ paste d₀ at s j → at + j < length d₀ → j < length s
     → set d (at + j) (getD s j 0) ≡ paste d₀ at s (j + 1)
@@ -43,18 +45,37 @@ joined a b c ha hb hc =
     ∙ ap (λ (x : ℕ). x + c) (sym s)
 
 -- a run that is stored, or copied, into d after p: what was there before p's end stays
-laid : (d p q s : List ℕ) (n : ℕ) → d ≡ p ++ q → length p ≡ n → take n d ++ s ++ drop (n + length s) d ≡ p ++ s ++ drop (n + length s) d
+laid : (d p q s : List ℕ) (n : ℕ) → d ≡ p ++ q → length p ≡ n
+    → take n d ++ s ++ drop (n + length s) d ≡ p ++ s ++ drop (n + length s) d
 laid d p q s n e h = ap (λ (r : List ℕ). r ++ s ++ drop (n + length s) d) (ap (take n) e ∙ take-at p q n h)
 
-pub four : (l w x y z a b c d : List ℕ) (i j k : ℕ) → w ≡ sets l 0 a → x ≡ paste w i b (length b) → y ≡ sets x j c → z ≡ paste y k d (length d)
-    → length a ≡ i → i + length b ≡ j → j + length c ≡ k → length l ≡ k + length d → length x ≡ k + length d → length y ≡ k + length d
+pub four : (l w x y z a b c d : List ℕ) (i j k : ℕ)
+    → w ≡ sets l 0 a → x ≡ paste w i b (length b) → y ≡ sets x j c → z ≡ paste y k d (length d)
+    → length a ≡ i → i + length b ≡ j → j + length c ≡ k
+    → length l ≡ k + length d → length x ≡ k + length d → length y ≡ k + length d
     → z ≡ a ++ (b ++ (c ++ d))
 four l w x y z a b c d i j k ew ex ey ez ha hb hc hl hx hy =
     let pw : w ≡ a ++ drop (0 + length a) l = ew ∙ sets-eq a l 0 (omega arith) in
     let px : x ≡ a ++ b ++ drop (i + length b) w = ex ∙ rw take-length (laid w a (drop (0 + length a) l) b i pw ha) in
     let hab : length (a ++ b) ≡ j = simp length-append (omega arith) in
-    let py : y ≡ a ++ b ++ c ++ drop (j + length c) x = ey ∙ sets-eq c x j (omega arith) ∙ laid x (a ++ b) (drop (i + length b) w) c j px hab in
+    let py : y ≡ a ++ b ++ c ++ drop (j + length c) x =
+    ey ∙ sets-eq c x j (omega arith) ∙ laid x (a ++ b) (drop (i + length b) w) c j px hab in
     let habc : length (a ++ b ++ c) ≡ k = simp length-append (omega arith) in
-    let pz : z ≡ a ++ b ++ c ++ d ++ drop (k + length d) y = ez ∙ rw take-length (laid y (a ++ b ++ c) (drop (j + length c) x) d k py habc) in
+    let pz : z ≡ a ++ b ++ c ++ d ++ drop (k + length d) y =
+    ez ∙ rw take-length (laid y (a ++ b ++ c) (drop (j + length c) x) d k py habc) in
     let none : drop (k + length d) y ≡ [] = drop-of-length-le y {i = k + length d} (omega arith) in
     pz ∙ ap (λ (r : List ℕ). a ++ b ++ c ++ d ++ r) none ∙ append-nil (a ++ b ++ c ++ d) ∙ simp append-assoc
+
+-- the n elements from i on, one by one
+abbrev pub run : ℕ → ℕ → List ℕ → List ℕ
+run zero i l = []
+run (suc n) i l = getD l i 0 ∷ run n (suc i) l
+
+pub run-is : (n i : ℕ) (l : List ℕ) → i + n ≤ length l → run n i l ≡ take n (drop i l)
+run-is zero i l h = refl
+run-is (suc n) i l h =
+    ap (λ (r : List ℕ). getD l i 0 ∷ r) (run-is n (suc i) l (omega arith))
+    ∙ sym (ap (take (suc n)) (drop-cons l i 0 (omega arith)))
+
+pub seam : (n i : ℕ) (l : List ℕ) → take n (drop i l) ++ drop (i + n) l ≡ drop i l
+seam n i l = rw (← drop-drop n i l) (take-append-drop n (drop i l))

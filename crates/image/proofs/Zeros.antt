@@ -1,7 +1,7 @@
 -- Zeros in the FIFO's unused places, as the code looks for them: an or of all bytes from a place on.
 -- `passed`: no byte before that place counts. `joined-in`: one from it on does.
-use mathlib.Core.Path.{_≡_, refl, ap, sym, _∙_}
-use mathlib.Core.Bool.{Bool, true, false}
+use mathlib.Core.Path.{_≡_, ap}
+use mathlib.Core.Bool.{true}
 use mathlib.Core.List.{List, [], _∷_, _++_}
 use Prim.Native.Nat.{ℕ, zero, suc, _+_, _<_, _≤_}
 use native.Mathlib.Nat.{min-le-left}
@@ -19,7 +19,9 @@ use Rattle.image.proofs.Tests.{both-true, both-assoc}
 or-zero : (a b : ℕ) → eqb (bitOr a b) 0 ≡ both (eqb a 0) (eqb b 0)
 unfolding both
 or-zero zero b = rw or-zero-l
-or-zero (suc a) b = rw (ne-eqb (suc a) 0 (λ e. omega arith)) (ne-eqb (bitOr (suc a) b) 0 (λ e. omega (arith, e, or-add-and (suc a) b, and-le-r (suc a) b)))
+or-zero (suc a) b =
+    rw (ne-eqb (suc a) 0 (λ e. omega arith))
+    (ne-eqb (bitOr (suc a) b) 0 (λ e. omega (arith, e, or-add-and (suc a) b, and-le-r (suc a) b)))
 
 -- one byte more at the end
 longer : (l : List ℕ) (b : ℕ) → areZero (l ++ (b ∷ [])) ≡ both (areZero l) (eqb b 0)

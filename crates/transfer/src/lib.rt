@@ -21,6 +21,7 @@ ghost use Rattle.chip.specs.TransferInfo.{
   parityNoted,
   takenIn,
 };
+ghost use lib.Dec.{ltb};
 use chip::Direction;
 use chip::Fifo;
 use chip::Noted;

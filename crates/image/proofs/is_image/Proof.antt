@@ -37,7 +37,8 @@ flag l =
     && ltb (getD l 38 0) 8
     && ltb (getD l 40 0) 13
 
-settled : (l : List ℕ) (r : Bool) → length l ≡ 53 → flag l ≡ r → isImage l ≡ both r (areZero (drop (getD l 40 0) (take 12 (drop 41 l))))
+settled : (l : List ℕ) (r : Bool) → length l ≡ 53 → flag l ≡ r
+    → isImage l ≡ both r (areZero (drop (getD l 40 0) (take 12 (drop 41 l))))
 unfolding isImage
 settled l r h e = rw (eq-eqb _ _ h, ← e, either-or) (both-on _ ∙ lined-up _ _ _ _ _ _ _ _ _ _ _ _ _ _ _)
 

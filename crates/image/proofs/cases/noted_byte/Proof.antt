@@ -1,6 +1,6 @@
 -- `image::cases::noted_byte` meets its contract: a phase's number is below 8, so that one more is a byte.
 use mathlib.Core.Path.{sym, ap, _∙_}
-use Prim.Native.Nat.{ℕ, _+_, _<_}
+use Prim.Native.Nat.{ℕ, _+_}
 use native.Mathlib.Omega.{arith}
 use Rattle.chip.specs.Image.{notedByte}
 use Rattle.image.proofs.Forms.{phase-below}

@@ -1,5 +1,5 @@
 -- `image::parts::put_image` meets its contract: four runs, one after the other, are the image.
-use mathlib.Core.Path.{_≡_, refl}
+use mathlib.Core.Path.{_≡_}
 use native.Mathlib.Omega.{arith}
 use lib.ListN.{length}
 use Rattle.chip.specs.Image.{headBytes, middleBytes, imageOf}
@@ -8,11 +8,6 @@ use Rattle.image.proofs.Places.{head-length, middle-length}
 use borrow.Author.Needs.{needs}
 use Rattle.image.proofs.parts.put_image.Statement.{statement}
 use Rattle.image.proofs.parts.put_image.Tie as tie
-use Rattle.image.proofs.parts.put_image.Reads as reads
-use Rattle.image.proofs.parts.put_image.Lts as lts
-use Rattle.image.proofs.parts.put_head.Reads as put-head-reads
-use Rattle.image.proofs.parts.put_middle.Reads as put-middle-reads
-use Rattle.image.proofs.runs.put.Reads as put-reads
 
 cdb-long : (c : tie.Start) → length (c .args .s .registers .cdb) ≡ 12
 cdb-long c = search needs

@@ -48,7 +48,11 @@ shared-slice-read-t26 c = search needs
 
 returns : tie.Need-returns
 unfolding stateOf
-returns c = simp (c .before .before .before .before .before .before .before .before .before .before .before .before .before .get .ensures, c .before .before .before .before .before .before .before .before .count-of .ensures)
+returns c =
+    simp (
+      c .before .before .before .before .before .before .before .before .before .before .before .before .before .get .ensures,
+      c .before .before .before .before .before .before .before .before .count-of .ensures,
+    )
 
 pub registers-of-spec : {M : Type 1} → statement M
 registers-of-spec =

@@ -21,7 +21,14 @@ wire-of-requires c κs = search needs
 
 returns : tie.Need-returns
 unfolding stateOf
-returns c = simp (c .before .before .before .before .registers-of .ensures, c .before .before .before .status-of .ensures, c .before .before .fifo-of .ensures, c .before .transfer-of .ensures, c .wire-of .ensures)
+returns c =
+    simp (
+      c .before .before .before .before .registers-of .ensures,
+      c .before .before .before .status-of .ensures,
+      c .before .before .fifo-of .ensures,
+      c .before .transfer-of .ensures,
+      c .wire-of .ensures,
+    )
 
 pub state-of-spec : {M : Type 1} → statement M
 state-of-spec =

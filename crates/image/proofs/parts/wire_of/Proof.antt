@@ -36,7 +36,12 @@ shared-slice-read-t18 c = search needs
 
 returns : tie.Need-returns
 unfolding stateOf
-returns c = simp (c .before .before .before .before .before .before .before .before .connection-of .ensures, c .before .before .before .before .before .before .noted-of .ensures, c .before .before .before .before .noted-of2 .ensures)
+returns c =
+    simp (
+      c .before .before .before .before .before .before .before .before .connection-of .ensures,
+      c .before .before .before .before .before .before .noted-of .ensures,
+      c .before .before .before .before .noted-of2 .ensures,
+    )
 
 pub wire-of-spec : {M : Type 1} → statement M
 wire-of-spec =

@@ -1,11 +1,9 @@
 -- `image::runs::get` meets its contract: the loop is `lib.Seq`'s `paste`, one byte a turn.
-use mathlib.Core.Path.{_≡_, refl, ap, sym, _∙_}
-use Prim.Native.Nat.{ℕ, _+_, _-_, _≤_, _<_, zero-le}
-use native.Mathlib.Nat.{le-antisymm}
-use native.Mathlib.Numerals.{add-one}
+use mathlib.Core.Path.{_≡_, refl, ap, _∙_}
+use Prim.Native.Nat.{_+_, _-_, _≤_, _<_, zero-le}
 use native.Mathlib.Omega.{arith}
-use lib.ListN.{length, getD, set, drop, length-set}
-use lib.Seq.{paste, paste-zero, paste-suc}
+use lib.ListN.{length, drop, length-set}
+use lib.Seq.{paste, paste-zero}
 use Rattle.image.proofs.Lists.{fetched, fetched-all}
 use Rattle.image.proofs.runs.get.Statement.{statement}
 use Rattle.image.proofs.runs.get.Tie as tie

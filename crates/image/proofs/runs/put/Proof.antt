@@ -1,11 +1,10 @@
 -- `image::runs::put` meets its contract: the loop is `lib.Seq`'s `paste`, one byte a turn.
-use mathlib.Core.Path.{_≡_, refl, ap, sym, _∙_}
-use Prim.Native.Nat.{ℕ, _+_, _-_, _≤_, _<_, zero-le}
+use mathlib.Core.Path.{_≡_, refl, ap, _∙_}
+use Prim.Native.Nat.{_+_, _-_, _≤_, _<_, zero-le}
 use native.Mathlib.Nat.{le-antisymm}
-use native.Mathlib.Numerals.{add-one}
 use native.Mathlib.Omega.{arith}
-use lib.ListN.{length, getD, set, length-set}
-use lib.Seq.{paste, paste-zero, paste-suc}
+use lib.ListN.{length, length-set}
+use lib.Seq.{paste, paste-zero}
 use Rattle.image.proofs.Lists.{stored}
 use Rattle.image.proofs.runs.put.Statement.{statement}
 use Rattle.image.proofs.runs.put.Tie as tie

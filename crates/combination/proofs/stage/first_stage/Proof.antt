@@ -1,0 +1,17 @@
+-- `combination::stage::first_stage` meets its contract: each way through the code is the definition's own way.
+use borrow.Author.Tests.{lt-ltb, le-ltb, le-leb, lt-leb}
+use Rattle.chip.specs.SelectAndTransfer.{firstStage}
+use Rattle.chip.specs.Choice.{pick}
+use Rattle.combination.proofs.stage.first_stage.Statement.{statement}
+use Rattle.combination.proofs.stage.first_stage.Tie as tie
+
+returns : tie.Need-returns
+unfolding firstStage pick
+returns c = simp (lt-ltb _ _ (c .if1 .taken), lt-leb _ _ (c .if1 .taken))
+
+returns-2 : tie.Need-returns-2
+unfolding firstStage pick
+returns-2 c = simp (le-leb _ _ (c .if1 .left), le-ltb _ _ (c .if1 .left))
+
+pub first-stage-spec : {M : Type 1} → statement M
+first-stage-spec = tie.close (tie.spec returns returns-2)

@@ -1,0 +1,15 @@
+-- `combination::stage::has_size` meets its contract: each way through the code is the definition's own way.
+use Rattle.chip.specs.SelectAndTransfer.{hasSize}
+use borrow.Author.Needs.{needs}
+use Rattle.combination.proofs.stage.has_size.Statement.{statement}
+use Rattle.combination.proofs.stage.has_size.Tie as tie
+
+size-requires : tie.Need-size-requires
+size-requires c κs = search needs
+
+returns : tie.Need-returns
+unfolding hasSize
+returns c = simp (c .size .ensures)
+
+pub has-size-spec : {M : Type 1} → statement M
+has-size-spec = tie.close (tie.spec size-requires returns)

@@ -1,0 +1,32 @@
+-- Block moves over the FIFO alone, as the code makes them. proofs/Blocks.antt shows that they are chip's blockRead and blockWritten,
+-- which are made of single accesses.
+use mathlib.Core.Bool.{Bool}
+use mathlib.Core.List.{List, [], _∷_}
+use Prim.Native.Nat.{ℕ, suc}
+use lib.Dec.{ltb}
+use Rattle.chip.specs.Choice.{pick, both}
+use Rattle.chip.specs.Fifo.{isEmpty, hasRoom, waits, front, pop, push}
+use Rattle.chip.specs.declared.Fifo.{Fifo}
+
+-- how many bytes moved, the FIFO then, and the slice then
+pub record Run : Type 0 where
+  pub moved : ℕ
+  pub fifo : Fifo
+  pub bytes : List ℕ
+
+abbrev pub more : ℕ → Run → Run
+more b r = record { moved = suc (r .moved); fifo = r .fifo; bytes = b ∷ r .bytes }
+
+abbrev pub rest : List ℕ → Fifo → Run
+rest l q = record { moved = 0; fifo = q; bytes = l }
+
+-- the FIFO read out into the slice, as far as both go
+unfoldable pub drained : List ℕ → Fifo → Run
+drained [] q = rest [] q
+drained (b ∷ l) q = pick (isEmpty q) (rest (b ∷ l) q) (more (front q) (drained l (pop q)))
+
+-- the slice is written into the FIFO while fewer wait than n, and there is room
+unfoldable pub filled : ℕ → List ℕ → Fifo → Run
+filled n [] q = rest [] q
+filled n (b ∷ l) q =
+    pick (both (ltb (waits q) n) (hasRoom q)) (more b (filled n l (push b q))) (rest (b ∷ l) q)
