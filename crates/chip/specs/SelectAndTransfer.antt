@@ -41,6 +41,10 @@ firstStage n = pick (ltb 0 n) (SendCommand 0) Elsewhere
 unfoldable pub nextStage : ℕ → ℕ → Stage
 nextStage x n = pick (ltb x n) (SendCommand x) (pick (eqb x n) Body Elsewhere)
 
+-- 31h to 3Fh
+unfoldable pub isCommandPhase : ℕ → Bool
+isCommandPhase phase = both (ltb 0x30 phase) (ltb phase 0x40)
+
 -- "Next by phase register": what the register stands for, in a run that identifies itself (08) or not (09),
 -- for a command of n bytes
 unfoldable pub stageOf : Bool → ℕ → ℕ → Stage
@@ -48,7 +52,7 @@ stageOf identifies phase n =
     pick (eqb phase 0x10) (pick identifies SendIdentify (firstStage n))
     (pick (eqb phase 0x20) (firstStage n)
     (pick (eqb phase 0x30) (firstStage n)
-    (pick (both (ltb 0x30 phase) (ltb phase 0x40)) (nextStage (phase - 0x30) n)
+    (pick (isCommandPhase phase) (nextStage (phase - 0x30) n)
     (pick (eqb phase 0x41) Body
     (pick (eqb phase 0x42) Disconnecting
     (pick (eqb phase 0x44) Reselected
@@ -197,18 +201,21 @@ unfoldable pub hasSize : State → Bool
 hasSize s = ltb 0 (size s)
 
 -- "Resume .. accepts 10h, 20h, 30h, 41h, 42h, 44h, 45h, 46h, 50h, 60h; else 40h."
-unfoldable pub isLate : ℕ → Bool
-isLate phase =
-    either (eqb phase 0x41)
-    (either (eqb phase 0x42)
-    (either (eqb phase 0x44)
-    (either (eqb phase 0x45) (either (eqb phase 0x46) (either (eqb phase 0x50) (eqb phase 0x60))))))
+
+-- the command is still to be sent, so that its size counts
+unfoldable pub isEarly : ℕ → Bool
+isEarly phase = either (eqb phase 0x10) (either (eqb phase 0x20) (eqb phase 0x30))
+
+unfoldable pub isMiddle : ℕ → Bool
+isMiddle phase = either (eqb phase 0x41) (either (eqb phase 0x42) (either (eqb phase 0x44) (eqb phase 0x45)))
+
+unfoldable pub isAtEnd : ℕ → Bool
+isAtEnd phase = either (eqb phase 0x46) (either (eqb phase 0x50) (eqb phase 0x60))
 
 unfoldable pub isResumable : State → Bool
 isResumable s =
-    pick (either (eqb (s .registers .phase) 0x10) (either (eqb (s .registers .phase) 0x20) (eqb (s .registers .phase) 0x30)))
-    (hasSize s)
-    (isLate (s .registers .phase))
+    pick (isEarly (s .registers .phase)) (hasSize s)
+    (either (isMiddle (s .registers .phase)) (isAtEnd (s .registers .phase)))
 
 -- "It releases ACK except at 46h"
 unfoldable pub ackAfterResume : State → Bool

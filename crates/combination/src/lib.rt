@@ -6,6 +6,7 @@ pub mod take;
 
 ghost use mathlib.Core.Path.{_≡_};
 ghost use Prim.Native.Nat.{_<_};
+ghost use Rattle.combination.specs.Sendable.{Sendable};
 ghost use Rattle.chip.specs.SelectAndTransfer.{
   bodyRequest,
   dataIn,
@@ -158,10 +159,10 @@ fn late_request(p: Phase, b: u8, bad: bool, s: State) -> Reply
     }
 }
 
-pub fn transfer_request(identifies: bool, p: Phase, b: u8, bad: bool, s: State) -> Reply
-    ensures { λ r. ⌜ r ≡ transferRequest identifies p b bad s ⌝ }
+fn request_at(stage: Stage, p: Phase, b: u8, bad: bool, s: State) -> Reply
+    requires { ⌜ Sendable stage ⌝ }
+    ensures { λ r. ⌜ r ≡ requestAt stage p b bad s ⌝ }
 {
-    let stage = stage::stage_of(identifies, s.registers.phase, stage::size(s));
     match stage {
         Stage::SendIdentify => send_identify(p, s),
         Stage::SendCommand(x) => send_command(x, p, s),
@@ -172,4 +173,10 @@ pub fn transfer_request(identifies: bool, p: Phase, b: u8, bad: bool, s: State) 
         Stage::AfterStatus => take::complete(p, b, bad, s),
         Stage::Elsewhere => take::unexpected(p, s),
     }
+}
+
+pub fn transfer_request(identifies: bool, p: Phase, b: u8, bad: bool, s: State) -> Reply
+    ensures { λ r. ⌜ r ≡ transferRequest identifies p b bad s ⌝ }
+{
+    request_at(stage::stage_of(identifies, s.registers.phase, stage::size(s)), p, b, bad, s)
 }

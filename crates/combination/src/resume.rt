@@ -1,8 +1,6 @@
 // How a Select-And-Transfer begins, from Disconnected or as a resume.
 ghost use mathlib.Core.Path.{_≡_};
-ghost use lib.Dec.{eqb};
-ghost use Rattle.chip.specs.Choice.{either};
-ghost use Rattle.chip.specs.SelectAndTransfer.{ackAfterResume, fromDisconnected, isLate, isResumable, resumed};
+ghost use Rattle.chip.specs.SelectAndTransfer.{ackAfterResume, fromDisconnected, isAtEnd, isEarly, isMiddle, isResumable, resumed};
 use crate::stage;
 use chip::Noted;
 use chip::Running;
@@ -17,9 +15,8 @@ pub fn from_disconnected(s: State) -> State
     set::phase(count::loaded(s), 0x00)
 }
 
-// The command has not been sent, so that its size counts.
 fn is_early(phase: u8) -> bool
-    ensures { λ r. ⌜ r ≡ either (eqb phase 0x10) (either (eqb phase 0x20) (eqb phase 0x30)) ⌝ }
+    ensures { λ r. ⌜ r ≡ isEarly phase ⌝ }
 {
     if phase == 0x10 {
         return true;
@@ -30,8 +27,14 @@ fn is_early(phase: u8) -> bool
     phase == 0x30
 }
 
-fn is_at_the_end(phase: u8) -> bool
-    ensures { λ r. ⌜ r ≡ either (eqb phase 0x46) (either (eqb phase 0x50) (eqb phase 0x60)) ⌝ }
+fn is_middle(phase: u8) -> bool
+    ensures { λ r. ⌜ r ≡ isMiddle phase ⌝ }
+{
+    (phase == 0x41) | ((phase == 0x42) | ((phase == 0x44) | (phase == 0x45)))
+}
+
+fn is_at_end(phase: u8) -> bool
+    ensures { λ r. ⌜ r ≡ isAtEnd phase ⌝ }
 {
     if phase == 0x46 {
         return true;
@@ -42,24 +45,6 @@ fn is_at_the_end(phase: u8) -> bool
     phase == 0x60
 }
 
-fn is_late(phase: u8) -> bool
-    ensures { λ r. ⌜ r ≡ isLate phase ⌝ }
-{
-    if phase == 0x41 {
-        return true;
-    }
-    if phase == 0x42 {
-        return true;
-    }
-    if phase == 0x44 {
-        return true;
-    }
-    if phase == 0x45 {
-        return true;
-    }
-    is_at_the_end(phase)
-}
-
 pub fn is_resumable(s: State) -> bool
     ensures { λ r. ⌜ r ≡ isResumable s ⌝ }
 {
@@ -67,7 +52,10 @@ pub fn is_resumable(s: State) -> bool
     if is_early(phase) {
         return stage::has_size(s);
     }
-    is_late(phase)
+    if is_middle(phase) {
+        return true;
+    }
+    is_at_end(phase)
 }
 
 fn ack_after_resume(s: State) -> bool

@@ -1,8 +1,7 @@
 // What the phase register stands for, and the size of the command.
 ghost use mathlib.Core.Path.{_≡_};
-ghost use Rattle.chip.specs.Choice.{both};
-ghost use Rattle.chip.specs.SelectAndTransfer.{firstStage, hasSize, nextStage, size, sizeOf, stageOf};
-ghost use lib.Dec.{ltb};
+ghost use Prim.Native.Nat.{_-_};
+ghost use Rattle.chip.specs.SelectAndTransfer.{firstStage, hasSize, isCommandPhase, nextStage, size, sizeOf, stageOf};
 use chip::Stage;
 use chip::State;
 
@@ -57,6 +56,25 @@ fn next_stage(x: u8, n: u8) -> Stage
     Stage::Elsewhere
 }
 
+fn is_command_phase(phase: u8) -> bool
+    ensures { λ r. ⌜ r ≡ isCommandPhase phase ⌝ }
+{
+    if 0x30 < phase {
+        return phase < 0x40;
+    }
+    false
+}
+
+// How many command bytes were taken, at 3xh.
+fn above_30(phase: u8) -> u8
+    ensures { λ r. ⌜ r ≡ phase - 0x30 ⌝ }
+{
+    if 0x30 < phase {
+        return phase - 0x30;
+    }
+    0
+}
+
 pub fn stage_of(identifies: bool, phase: u8, n: u8) -> Stage
     ensures { λ r. ⌜ r ≡ stageOf identifies phase n ⌝ }
 {
@@ -72,10 +90,8 @@ pub fn stage_of(identifies: bool, phase: u8, n: u8) -> Stage
     if phase == 0x30 {
         return first_stage(n);
     }
-    if 0x30 < phase {
-        if phase < 0x40 {
-            return next_stage(phase - 0x30, n);
-        }
+    if is_command_phase(phase) {
+        return next_stage(above_30(phase), n);
     }
     if phase == 0x41 {
         return Stage::Body;

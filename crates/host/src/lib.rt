@@ -1,5 +1,4 @@
 // What the host does: the pointer, auxiliary status, registers, the Data register. The definitions of chip's specs/Registers.antt.
-pub mod block;
 pub mod data_register;
 pub mod register;
 

@@ -39,7 +39,7 @@ loop-again c =
     let from = b .before .args .from in
     let i = b .loop .i in
     ⊎-elim
-    (λ w. (omega arith, ap (λ (x : ℕ). eqb x 0) (w .2) ∙ joined-in s from i (b .loop .x) (omega arith) (w .0 .taken) (b .loop .inv .1)))
+    (λ w. (omega arith, ap (λ (x : ℕ). eqb x 0) (w .2) ∙ joined-in s from i (b .loop .x) (omega arith) (omega (arith, w .0 .taken)) (b .loop .inv .1)))
     (λ w. (
       omega arith,
       ap (λ (x : ℕ). eqb x 0) (w .1) ∙ b .loop .inv .1 ∙ passed s from i (omega (arith, w .0 .left)) ∙ sym (passed s from (i + 1) (omega (arith, w .0 .left))),

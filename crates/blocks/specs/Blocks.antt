@@ -3,10 +3,14 @@
 use mathlib.Core.Bool.{Bool}
 use mathlib.Core.List.{List, [], _∷_}
 use Prim.Native.Nat.{ℕ, suc}
-use lib.Dec.{ltb}
+use lib.Dec.{eqb, ltb}
 use Rattle.chip.specs.Choice.{pick, both}
+use Rattle.chip.specs.State.{setFifo}
 use Rattle.chip.specs.Fifo.{isEmpty, hasRoom, waits, front, pop, push}
+use Rattle.chip.specs.Interrupts.{settled}
+use Rattle.chip.specs.Registers.{Moved}
 use Rattle.chip.specs.declared.Fifo.{Fifo}
+use Rattle.chip.specs.declared.State.{State}
 
 -- how many bytes moved, the FIFO then, and the slice then
 pub record Run : Type 0 where
@@ -25,8 +29,21 @@ unfoldable pub drained : List ℕ → Fifo → Run
 drained [] q = rest [] q
 drained (b ∷ l) q = pick (isEmpty q) (rest (b ∷ l) q) (more (front q) (drained l (pop q)))
 
--- the slice is written into the FIFO while fewer wait than n, and there is room
+-- fewer wait than n, and there is room
+unfoldable pub takes : ℕ → Fifo → Bool
+takes n q = both (ltb (waits q) n) (hasRoom q)
+
+-- the slice is written into the FIFO, which is to hold n, as far as both go
 unfoldable pub filled : ℕ → List ℕ → Fifo → Run
 filled n [] q = rest [] q
 filled n (b ∷ l) q =
-    pick (both (ltb (waits q) n) (hasRoom q)) (more b (filled n l (push b q))) (rest (b ∷ l) q)
+    pick (takes n q) (more b (filled n l (push b q))) (rest (b ∷ l) q)
+
+-- the run r as a block of reads: an ending settles once, after the last byte
+abbrev pub readBy : Run → State → Moved
+readBy r s =
+    record { number = r .moved; state = pick (eqb (r .moved) 0) s (settled (setFifo (r .fifo) s)); bytes = r .bytes }
+
+-- the run r as a block of writes of l
+abbrev pub writtenBy : Run → List ℕ → State → Moved
+writtenBy r l s = record { number = r .moved; state = setFifo (r .fifo) s; bytes = l }

@@ -1,0 +1,118 @@
+// Block moves: chip's blockRead and blockWritten, single accesses to the Data register until the slice ends or answer 7 would come.
+// The loops go over the FIFO alone; the state is made anew once, after them.
+ghost use mathlib.Core.Path.{_≡_};
+ghost use Rattle.chip.specs.Registers.{blockRead, blockWritten};
+ghost use Rattle.blocks.specs.Blocks.{drained, filled, takes};
+use chip::Direction;
+use chip::Fifo;
+use chip::State;
+use endings::count;
+use endings::fifo;
+use endings::interrupts;
+use state::get;
+use state::set;
+
+// The number of bytes moved, and the state then.
+pub struct Moved {
+    pub number: u8,
+    pub state: State,
+}
+
+// The number of bytes moved, and the FIFO then.
+struct Run {
+    moved: u8,
+    fifo: Fifo,
+}
+
+fn drain(q: Fifo, out: &mut [u8]) -> Run
+    ensures { λ r. ⌜ (r .moved ≡ drained (now (out .entry)) q .moved) × (r .fifo ≡ drained (now (out .entry)) q .fifo) × (now (out .exit) ≡ drained (now (out .entry)) q .bytes) ⌝ }
+{
+    let mut t = q;
+    let mut i = 0;
+    while i < out.len() {
+        if fifo::is_empty(t) {
+            return Run {
+                moved: i as u8,
+                fifo: t,
+            };
+        }
+        out[i] = fifo::front(t);
+        t = fifo::pop(t);
+        i += 1;
+    }
+    Run {
+        moved: i as u8,
+        fifo: t,
+    }
+}
+
+fn takes(n: u32, q: Fifo) -> bool
+    ensures { λ r. ⌜ r ≡ takes n q ⌝ }
+{
+    if (fifo::waits(q) as u32) < n {
+        return fifo::has_room(q);
+    }
+    false
+}
+
+fn fill(n: u32, q: Fifo, from: &[u8]) -> Run
+    ensures { λ r. ⌜ (r .moved ≡ filled n (now (from .entry)) q .moved) × (r .fifo ≡ filled n (now (from .entry)) q .fifo) ⌝ }
+{
+    let mut t = q;
+    let mut i = 0;
+    while i < from.len() {
+        if takes(n, t) {
+            t = fifo::push(from[i], t);
+            i += 1;
+        } else {
+            return Run {
+                moved: i as u8,
+                fifo: t,
+            };
+        }
+    }
+    Run {
+        moved: i as u8,
+        fifo: t,
+    }
+}
+
+pub fn block_read(s: State, out: &mut [u8]) -> Moved
+    ensures { λ r. ⌜ (r .number ≡ blockRead (now (out .entry)) s .number) × (r .state ≡ blockRead (now (out .entry)) s .state) × (now (out .exit) ≡ blockRead (now (out .entry)) s .bytes) ⌝ }
+{
+    let direction = get::direction(s);
+    match direction {
+        Direction::Unfixed => Moved { number: 0, state: s },
+        Direction::In => {
+            let q = s.fifo;
+            let d = drain(q, out);
+            let number = d.moved;
+            if number == 0 {
+                return Moved { number: 0, state: s };
+            }
+            let rest = d.fifo;
+            let emptied = set::fifo(s, rest);
+            let state = interrupts::settled(emptied);
+            Moved { number, state }
+        }
+        Direction::Out => Moved { number: 0, state: s },
+    }
+}
+
+pub fn block_written(s: State, from: &[u8]) -> Moved
+    ensures { λ r. ⌜ (r .number ≡ blockWritten (now (from .entry)) s .number) × (r .state ≡ blockWritten (now (from .entry)) s .state) ⌝ }
+{
+    let direction = get::direction(s);
+    match direction {
+        Direction::Unfixed => Moved { number: 0, state: s },
+        Direction::In => Moved { number: 0, state: s },
+        Direction::Out => {
+            let q = s.fifo;
+            let f = fill(count::left(s), q, from);
+            let number = f.moved;
+            let rest = f.fifo;
+            let state = set::fifo(s, rest);
+            Moved { number, state }
+        }
+    }
+}

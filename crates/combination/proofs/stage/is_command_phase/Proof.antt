@@ -1,0 +1,17 @@
+-- `combination::stage::is_command_phase` meets its contract: each way through the code is the definition's own way.
+use borrow.Author.Tests.{lt-ltb, le-ltb, le-leb, lt-leb}
+use Rattle.chip.specs.SelectAndTransfer.{isCommandPhase}
+use Rattle.chip.specs.Choice.{both}
+use Rattle.combination.proofs.stage.is_command_phase.Statement.{statement}
+use Rattle.combination.proofs.stage.is_command_phase.Tie as tie
+
+returns : tie.Need-returns
+unfolding isCommandPhase both
+returns c = simp (lt-ltb _ _ (c .if1 .taken), lt-leb _ _ (c .if1 .taken))
+
+returns-2 : tie.Need-returns-2
+unfolding isCommandPhase both
+returns-2 c = simp (le-leb _ _ (c .if1 .left), le-ltb _ _ (c .if1 .left))
+
+pub is-command-phase-spec : {M : Type 1} → statement M
+is-command-phase-spec = tie.close (tie.spec returns returns-2)
