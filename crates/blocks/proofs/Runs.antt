@@ -1,21 +1,21 @@
 -- The two runs over the FIFO.
---   drained-none    an empty FIFO gives nothing
---   drained-more    another gives its oldest byte, then the rest
---   drained-waits   what was read and what waits then is what waited before
---   filled-none     a FIFO that takes no byte is left as it is
---   filled-more     another takes the slice's first byte, then the rest
---   filled-waits    what was written and what waited before is what waits then
+--   drained-none   an empty FIFO gives nothing
+--   drained-more   another gives its oldest byte, and then the rest
+--   drained-most   no more is read than waits
+--   filled-none    a FIFO that takes no byte is left as it is
+--   filled-more    another takes the slice's first byte, and then the rest
+--   filled-most    no more is written than there is room for
 use mathlib.Core.Path.{_≡_, refl}
 use mathlib.Core.Bool.{Bool, true, false}
 use mathlib.Core.List.{List, [], _∷_}
-use Prim.Native.Nat.{ℕ, suc, _+_}
+use Prim.Native.Nat.{ℕ, suc, _-_, _<_, _≤_, zero-le}
 use native.Mathlib.Omega.{arith}
 use lib.Dec.{ltb}
-use borrow.Author.Tests.{eqb-false}
+use borrow.Author.Tests.{eqb-false, ltb-true}
 use Rattle.chip.specs.Choice.{pick, both}
 use Rattle.chip.specs.Fifo.{isEmpty, hasRoom, waits, front, pop, push}
 use Rattle.chip.specs.declared.Fifo.{Fifo}
-use Rattle.blocks.specs.Blocks.{Run, more, rest, drained, takes, filled}
+use Rattle.blocks.specs.Blocks.{more, rest, drained, takes, filled}
 
 pub drained-none : (l : List ℕ) (q : Fifo) → isEmpty q ≡ true → drained l q ≡ rest l q
 unfolding drained pick
@@ -32,18 +32,17 @@ waits-pop q e =
     let h = eqb-false (q .held) 0 e in
     rw e (omega arith)
 
-drained-waits-by : (b : ℕ) (l : List ℕ) (q : Fifo) (t : Bool) → isEmpty q ≡ t
-    → drained l (pop q) .moved + waits (drained l (pop q) .fifo) ≡ waits (pop q)
-    → drained (b ∷ l) q .moved + waits (drained (b ∷ l) q .fifo) ≡ waits q
-drained-waits-by b l q true e h = rw (drained-none (b ∷ l) q e) (omega arith)
-drained-waits-by b l q false e h =
+drained-most-by : (b : ℕ) (l : List ℕ) (q : Fifo) (t : Bool) → isEmpty q ≡ t
+    → drained l (pop q) .moved ≤ waits (pop q) → drained (b ∷ l) q .moved ≤ waits q
+drained-most-by b l q true e h = rw (drained-none (b ∷ l) q e) zero-le
+drained-most-by b l q false e h =
     let w = waits-pop q e in
     rw (drained-more b l q e) (omega arith)
 
-pub drained-waits : (l : List ℕ) (q : Fifo) → drained l q .moved + waits (drained l q .fifo) ≡ waits q
+pub drained-most : (l : List ℕ) (q : Fifo) → drained l q .moved ≤ waits q
 unfolding drained
-drained-waits [] q = omega arith
-drained-waits (b ∷ l) q = drained-waits-by b l q (isEmpty q) refl (drained-waits l (pop q))
+drained-most [] q = zero-le
+drained-most (b ∷ l) q = drained-most-by b l q (isEmpty q) refl (drained-most l (pop q))
 
 pub filled-none : (n : ℕ) (l : List ℕ) (q : Fifo) → takes n q ≡ false → filled n l q ≡ rest l q
 unfolding filled pick
@@ -54,24 +53,29 @@ pub filled-more : (n b : ℕ) (l : List ℕ) (q : Fifo) → takes n q ≡ true �
 unfolding filled pick
 filled-more n b l q e = rw e
 
-takes-room-by : (n : ℕ) (q : Fifo) (t : Bool) → ltb (waits q) n ≡ t → takes n q ≡ true → hasRoom q ≡ true
+takes-room : (n : ℕ) (q : Fifo) (t : Bool) → ltb (waits q) n ≡ t → takes n q ≡ true → hasRoom q ≡ true
 unfolding takes both
-takes-room-by n q true e h = rw e at h
-takes-room-by n q false e h = let z : false ≡ true = rw e at h in cc
+takes-room n q true e h = rw e at h
+takes-room n q false e h = let z : false ≡ true = rw e at h in cc
 
-waits-push : (b n : ℕ) (q : Fifo) → takes n q ≡ true → waits (push b q) ≡ suc (waits q)
+room-waits : (q : Fifo) → hasRoom q ≡ true → waits q < 12
+unfolding hasRoom waits
+room-waits q e = ltb-true (q .held) 12 e
+
+waits-push : (b : ℕ) (q : Fifo) → hasRoom q ≡ true → waits (push b q) ≡ suc (waits q)
 unfolding waits push pick
-waits-push b n q e = rw (takes-room-by n q (ltb (waits q) n) refl e) (omega arith)
+waits-push b q e = rw e (omega arith)
 
-filled-waits-by : (n b : ℕ) (l : List ℕ) (q : Fifo) (t : Bool) → takes n q ≡ t
-    → filled n l (push b q) .moved + waits (push b q) ≡ waits (filled n l (push b q) .fifo)
-    → filled n (b ∷ l) q .moved + waits q ≡ waits (filled n (b ∷ l) q .fifo)
-filled-waits-by n b l q false e h = rw (filled-none n (b ∷ l) q e) (omega arith)
-filled-waits-by n b l q true e h =
-    let w = waits-push b n q e in
+filled-most-by : (n b : ℕ) (l : List ℕ) (q : Fifo) (t : Bool) → takes n q ≡ t
+    → filled n l (push b q) .moved ≤ 12 - waits (push b q) → filled n (b ∷ l) q .moved ≤ 12 - waits q
+filled-most-by n b l q false e h = rw (filled-none n (b ∷ l) q e) zero-le
+filled-most-by n b l q true e h =
+    let r = takes-room n q (ltb (waits q) n) refl e in
+    let w = waits-push b q r in
+    let m = room-waits q r in
     rw (filled-more n b l q e) (omega arith)
 
-pub filled-waits : (n : ℕ) (l : List ℕ) (q : Fifo) → filled n l q .moved + waits q ≡ waits (filled n l q .fifo)
+pub filled-most : (n : ℕ) (l : List ℕ) (q : Fifo) → filled n l q .moved ≤ 12 - waits q
 unfolding filled
-filled-waits n [] q = omega arith
-filled-waits n (b ∷ l) q = filled-waits-by n b l q (takes n q) refl (filled-waits n l (push b q))
+filled-most n [] q = zero-le
+filled-most n (b ∷ l) q = filled-most-by n b l q (takes n q) refl (filled-most n l (push b q))

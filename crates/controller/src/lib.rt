@@ -1,50 +1,180 @@
 // The C entries: an image comes in, one call is made on its state, the image goes out. Nothing is required of the caller's numbers
 // or bytes: an image of another length, bytes that are no state's image and operands out of range are Bad number, with every lent
 // byte as it was. include/am33c93a.h is the C side.
-ghost use mathlib.Core.Path.{_≡_};
-ghost use Prim.Native.Nat.{_*_, _+_};
-ghost use Rattle.chip.specs.Answers.{number, value};
-ghost use Rattle.chip.specs.Calls.{Call};
-ghost use Rattle.chip.specs.Entries.{entered, freshEntered, lineBits, linesEntered, connectionBits, result};
-ghost use Rattle.chip.specs.Image.{imageOf};
-ghost use lib.ListN.{length};
+mod calls; // calls.rt: a call on a state, by its mark
+mod finish; // finish.rt: what every entry does last
+
 use bus::answer;
 use bus::free;
 use bus::request;
 use bus::reselection;
 use bus::time;
-use chip::Answer;
-use chip::Connection;
-use chip::Reply;
-use chip::State;
-use host::block;
-use state::answers;
-use state::get;
 use state::phases;
+ghost use Prim.Native.Nat.{_*_};
+ghost use Rattle.chip.specs.Calls as Calls;
+ghost use Rattle.chip.specs.Entries.{entered, freshEntered, linesEntered};
+ghost use mathlib.Core.Path.{_≡_};
 
 const BAD_NUMBER: u32 = 3;
-
-// The answer's number in bits 0 to 7, its value from bit 8 up.
-fn result(a: Answer) -> u32
-    ensures { λ r. ⌜ r ≡ result a ⌝ }
-{
-    (answers::number(a) as u32) + 256 * (answers::value(a) as u32)
-}
-
-// The last act of an entry: the new state goes into the image, the answer out.
-fn finish(r: Reply, image: &mut [u8]) -> u32
-    requires { ⌜ length (now image) ≡ 53 ⌝ }
-    ensures { λ n. ⌜ (n ≡ result (r .answer)) × (now (image .exit) ≡ imageOf (r .state)) ⌝ }
-{
-    let s = r.state;
-    let a = r.answer;
-    image::write(s, image);
-    result(a)
-}
 
 #[no_mangle]
 pub extern "C" fn am33c93a_image_length() -> u32
     ensures { λ r. ⌜ r ≡ 53 ⌝ }
 {
     53
+}
+
+#[no_mangle]
+pub extern "C" fn am33c93a_fresh(image: &mut [u8]) -> u32
+    ensures { λ r. ⌜ (r ≡ freshEntered (now (image .entry)) .result) × (now (image .exit) ≡ freshEntered (now (image .entry)) .image) ⌝ }
+{
+    if image.len() == 53 {
+        finish::fresh(image);
+        return 0;
+    }
+    BAD_NUMBER
+}
+
+#[no_mangle]
+pub extern "C" fn am33c93a_pointer(image: &mut [u8], mark: u32, byte: u32) -> u32
+    ensures { λ r. ⌜ (r ≡ entered (Calls.pointer mark byte) (now (image .entry)) .result)
+      × (now (image .exit) ≡ entered (Calls.pointer mark byte) (now (image .entry)) .image) ⌝ }
+{
+    if mark < 2 {
+        if byte < 256 {
+            let reading = image::read(image);
+            if reading.ok {
+                let s = reading.state;
+                return finish::finish(calls::pointer(mark, byte as u8, s), image);
+            }
+            return BAD_NUMBER;
+        }
+        return BAD_NUMBER;
+    }
+    BAD_NUMBER
+}
+
+#[no_mangle]
+pub extern "C" fn am33c93a_auxiliary(image: &mut [u8]) -> u32
+    ensures { λ r. ⌜ (r ≡ entered Calls.auxiliary (now (image .entry)) .result)
+      × (now (image .exit) ≡ entered Calls.auxiliary (now (image .entry)) .image) ⌝ }
+{
+    let reading = image::read(image);
+    if reading.ok {
+        let s = reading.state;
+        return finish::finish(host::auxiliary_read(s), image);
+    }
+    BAD_NUMBER
+}
+
+#[no_mangle]
+pub extern "C" fn am33c93a_register(image: &mut [u8], mark: u32, byte: u32) -> u32
+    ensures { λ r. ⌜ (r ≡ entered (Calls.register mark byte) (now (image .entry)) .result)
+      × (now (image .exit) ≡ entered (Calls.register mark byte) (now (image .entry)) .image) ⌝ }
+{
+    if mark < 2 {
+        if byte < 256 {
+            let reading = image::read(image);
+            if reading.ok {
+                let s = reading.state;
+                return finish::finish(host::accessed(mark == 1, byte as u8, s), image);
+            }
+            return BAD_NUMBER;
+        }
+        return BAD_NUMBER;
+    }
+    BAD_NUMBER
+}
+
+#[no_mangle]
+pub extern "C" fn am33c93a_time(image: &mut [u8], units: u32) -> u32
+    ensures { λ r. ⌜ (r ≡ entered (Calls.time units) (now (image .entry)) .result)
+      × (now (image .exit) ≡ entered (Calls.time units) (now (image .entry)) .image) ⌝ }
+{
+    if units < 256 {
+        let reading = image::read(image);
+        if reading.ok {
+            let s = reading.state;
+            return finish::finish(time::passed(units as u8, s), image);
+        }
+        return BAD_NUMBER;
+    }
+    BAD_NUMBER
+}
+
+#[no_mangle]
+pub extern "C" fn am33c93a_answer(image: &mut [u8]) -> u32
+    ensures { λ r. ⌜ (r ≡ entered Calls.answer (now (image .entry)) .result)
+      × (now (image .exit) ≡ entered Calls.answer (now (image .entry)) .image) ⌝ }
+{
+    let reading = image::read(image);
+    if reading.ok {
+        let s = reading.state;
+        return finish::finish(answer::answered(s), image);
+    }
+    BAD_NUMBER
+}
+
+#[no_mangle]
+pub extern "C" fn am33c93a_reselection(image: &mut [u8], lines: u32) -> u32
+    ensures { λ r. ⌜ (r ≡ entered (Calls.reselection lines) (now (image .entry)) .result)
+      × (now (image .exit) ≡ entered (Calls.reselection lines) (now (image .entry)) .image) ⌝ }
+{
+    if lines < 256 {
+        let reading = image::read(image);
+        if reading.ok {
+            let s = reading.state;
+            return finish::finish(reselection::reselected(lines as u8, s), image);
+        }
+        return BAD_NUMBER;
+    }
+    BAD_NUMBER
+}
+
+#[no_mangle]
+pub extern "C" fn am33c93a_request(image: &mut [u8], phase: u32, byte: u32, parity: u32) -> u32
+    ensures { λ r. ⌜ (r ≡ entered (Calls.request phase byte parity) (now (image .entry)) .result)
+      × (now (image .exit) ≡ entered (Calls.request phase byte parity) (now (image .entry)) .image) ⌝ }
+{
+    if phase < 8 {
+        if byte < 256 {
+            if parity < 2 {
+                let reading = image::read(image);
+                if reading.ok {
+                    let s = reading.state;
+                    let p = phases::phase_of(phase as u8);
+                    return finish::finish(request::requested(p, byte as u8, parity == 1, s), image);
+                }
+                return BAD_NUMBER;
+            }
+            return BAD_NUMBER;
+        }
+        return BAD_NUMBER;
+    }
+    BAD_NUMBER
+}
+
+#[no_mangle]
+pub extern "C" fn am33c93a_free(image: &mut [u8]) -> u32
+    ensures { λ r. ⌜ (r ≡ entered Calls.free (now (image .entry)) .result)
+      × (now (image .exit) ≡ entered Calls.free (now (image .entry)) .image) ⌝ }
+{
+    let reading = image::read(image);
+    if reading.ok {
+        let s = reading.state;
+        return finish::finish(free::freed(s), image);
+    }
+    BAD_NUMBER
+}
+
+#[no_mangle]
+pub extern "C" fn am33c93a_lines(image: &[u8]) -> u32
+    ensures { λ r. ⌜ r ≡ linesEntered (now (image .entry)) ⌝ }
+{
+    let reading = image::read(image);
+    if reading.ok {
+        let s = reading.state;
+        return 256 * calls::line_bits(s);
+    }
+    BAD_NUMBER
 }

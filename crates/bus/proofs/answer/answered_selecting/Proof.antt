@@ -1,0 +1,73 @@
+-- `bus::answer::answered_selecting` meets its contract: each way through the code is the definition's own way.
+use mathlib.Core.Path.{sym, _∙_}
+use Rattle.chip.specs.Events.{answeredSelecting}
+use Rattle.chip.specs.Choice.{pick}
+use Rattle.chip.specs.Interrupts.{unlessInterrupt}
+use borrow.Author.Needs.{needs}
+use Rattle.bus.proofs.answer.answered_selecting.Statement.{statement}
+use Rattle.bus.proofs.answer.answered_selecting.Tie as tie
+
+ends-requires : tie.Need-ends-requires
+ends-requires c κs = search needs
+
+held-requires : tie.Need-held-requires
+held-requires c κs = search needs
+
+returns : tie.Need-returns
+unfolding answeredSelecting pick unlessInterrupt
+returns c = simp (sym (c .before .before .ends .ensures) ∙ (c .before .if1 .taken), c .held .ensures)
+
+answered-state-requires : tie.Need-answered-state-requires
+answered-state-requires c κs = search needs
+
+is-transfer-requires : tie.Need-is-transfer-requires
+is-transfer-requires c κs = search needs
+
+phase-requires : tie.Need-phase-requires
+phase-requires c κs = search needs
+
+done-requires : tie.Need-done-requires
+done-requires c κs = search needs
+
+returns-2 : tie.Need-returns-2
+unfolding answeredSelecting pick unlessInterrupt
+returns-2 c = simp (c .before .before .before .before .before .before .ends .ensures, sym (c .before .before .before .before .before .before .ends .ensures) ∙ (c .before .before .before .before .before .if1 .left), c .before .before .before .before .answered-state .ensures, sym (c .before .before .before .is-transfer .ensures) ∙ (c .before .before .if2 .taken), c .before .phase .ensures, c .done .ensures)
+
+interrupted-requires : tie.Need-interrupted-requires
+interrupted-requires c κs = search needs
+
+held-requires-2 : tie.Need-held-requires-2
+held-requires-2 c κs = search needs
+
+returns-3 : tie.Need-returns-3
+unfolding answeredSelecting pick unlessInterrupt
+returns-3 c = simp (c .before .before .before .before .before .before .before .ends .ensures, sym (c .before .before .before .before .before .before .before .ends .ensures) ∙ (c .before .before .before .before .before .before .if1 .left), c .before .before .before .before .before .answered-state .ensures, sym (c .before .before .before .before .is-transfer .ensures) ∙ (c .before .before .before .if2 .left), sym (c .before .before .interrupted .ensures) ∙ (c .before .if3 .taken), c .held2 .ensures)
+
+raise-requires : tie.Need-raise-requires
+raise-requires c κs = search needs
+
+done-requires-2 : tie.Need-done-requires-2
+done-requires-2 c κs = search needs
+
+returns-4 : tie.Need-returns-4
+unfolding answeredSelecting pick unlessInterrupt
+returns-4 c = simp (c .before .before .before .before .before .before .before .before .ends .ensures, sym (c .before .before .before .before .before .before .before .before .ends .ensures) ∙ (c .before .before .before .before .before .before .before .if1 .left), c .before .before .before .before .before .before .answered-state .ensures, c .before .before .before .before .before .is-transfer .ensures, sym (c .before .before .before .before .before .is-transfer .ensures) ∙ (c .before .before .before .before .if2 .left), sym (c .before .before .before .interrupted .ensures) ∙ (c .before .before .if3 .left), c .before .raise .ensures, c .done2 .ensures)
+
+pub answered-selecting-spec : {M : Type 1} → statement M
+answered-selecting-spec =
+    tie.close
+    (tie.spec
+    ends-requires
+    held-requires
+    returns
+    answered-state-requires
+    is-transfer-requires
+    phase-requires
+    done-requires
+    returns-2
+    interrupted-requires
+    held-requires-2
+    returns-3
+    raise-requires
+    done-requires-2
+    returns-4)

@@ -1,0 +1,26 @@
+// What every entry does last: the new state goes into the image, the answer out as a number.
+ghost use mathlib.Core.Path.{_≡_};
+ghost use Rattle.chip.specs.Choice.{pick};
+ghost use Rattle.chip.specs.Entries.{result};
+ghost use Rattle.chip.specs.Image.{imageOf};
+ghost use Rattle.chip.specs.State as States;
+ghost use lib.Dec.{eqb};
+ghost use lib.ListN.{length};
+use chip::{Answer, Reply};
+use state::answers;
+
+// The answer's number in bits 0 to 7, its value from bit 8 up.
+pub fn result(a: Answer) -> u32
+    ensures { λ r. ⌜ r ≡ result a ⌝ }
+{
+    (answers::number(a) as u32) + 256 * (answers::value(a) as u32)
+}
+
+pub fn finish(r: Reply, image: &mut [u8]) -> u32
+    ensures { λ n. ⌜ (n ≡ result (r .answer)) × (now (image .exit) ≡ pick (eqb (length (now (image .entry))) 53) (imageOf (r .state)) (now (image .entry))) ⌝ }
+{
+    let s = r.state;
+    let a = r.answer;
+    image::write(s, image);
+    result(a)
+}

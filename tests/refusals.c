@@ -1,0 +1,132 @@
+/* The boundary of the library, from C: every entry's refusals, with guard bytes around both slices.
+ * A refusal answers Bad number with value 0 and leaves every lent byte as it was. Prints one line; exits with 1 on a failure. */
+#include <stdint.h>
+#include <stdio.h>
+#include <string.h>
+#include "am33c93a.h"
+
+enum { LENGTH = AM33C93A_IMAGE_LENGTH, GUARD = 16, SLICE = 20, ENTRIES = 11, BLOCK = 5 };
+
+static unsigned long checks, failures;
+
+static void check(int holds, const char *what, long a, long b)
+{
+    checks++;
+    if (holds) return;
+    failures++;
+    if (failures <= 20) printf("refusals: %s (%ld, %ld)\n", what, a, b);
+}
+
+/* One call by its number, with up to three operands. */
+static uint32_t call(int entry, uint8_t *image, size_t length, uint32_t a, uint32_t b, uint32_t c, uint8_t *data, size_t n)
+{
+    switch (entry) {
+    case 0: return am33c93a_pointer(image, length, a, b);
+    case 1: return am33c93a_auxiliary(image, length);
+    case 2: return am33c93a_register(image, length, a, b);
+    case 3: return am33c93a_time(image, length, a);
+    case 4: return am33c93a_answer(image, length);
+    case BLOCK: return am33c93a_block(image, length, a, data, n);
+    case 6: return am33c93a_reselection(image, length, a);
+    case 7: return am33c93a_request(image, length, a, b, c);
+    case 8: return am33c93a_free(image, length);
+    case 9: return am33c93a_lines(image, length);
+    default: return am33c93a_fresh(image, length);
+    }
+}
+
+struct lent {
+    uint8_t image[GUARD + LENGTH + 8 + GUARD];
+    uint8_t data[GUARD + SLICE + GUARD];
+};
+
+static void refused(int entry, const uint8_t *image, size_t length, uint32_t a, uint32_t b, uint32_t c, const char *what)
+{
+    struct lent before, after;
+    memset(&before, 0xA7, sizeof before);
+    memcpy(before.image + GUARD, image, length);
+    after = before;
+    uint32_t r = call(entry, after.image + GUARD, length, a, b, c, after.data + GUARD, SLICE);
+    check(r == AM33C93A_BAD_NUMBER, what, entry, (long)r);
+    check(memcmp(&before, &after, sizeof before) == 0, "a lent or guard byte changed", entry, (long)length);
+}
+
+/* Good operands: an answer that is not Bad number, and no byte outside the image and the data changes. */
+static void taken(int entry, const uint8_t *image, uint32_t a, uint32_t b, uint32_t c)
+{
+    struct lent before, after;
+    memset(&before, 0xA7, sizeof before);
+    memcpy(before.image + GUARD, image, LENGTH);
+    after = before;
+    uint32_t r = call(entry, after.image + GUARD, LENGTH, a, b, c, after.data + GUARD, SLICE);
+    check(AM33C93A_ANSWER(r) != AM33C93A_BAD_NUMBER, "refused", entry, (long)r);
+    memcpy(after.image + GUARD, before.image + GUARD, LENGTH);
+    memcpy(after.data + GUARD, before.data + GUARD, SLICE);
+    check(memcmp(&before, &after, sizeof before) == 0, "a guard byte changed", entry, 0);
+}
+
+static const struct { uint8_t at, limit; } ranges[] = {
+    {26, 2}, {27, 2}, {28, 4}, {30, 4}, {31, 6}, {32, 3}, {33, 2}, {34, 2}, {35, 2}, {36, 9}, {37, 9}, {38, 8}, {40, 13}};
+
+int main(void)
+{
+    uint8_t fresh[LENGTH + 8] = {0};
+    static const uint32_t edge[] = {255, 256, 257, 65535, 65536, 0x7fffffff, 0x80000000u, 0xffffffffu};
+    enum { EDGES = sizeof edge / sizeof edge[0] };
+
+    check(am33c93a_image_length() == LENGTH, "length", (long)am33c93a_image_length(), LENGTH);
+    for (int e = 0; e < ENTRIES; e++) {
+        for (size_t n = 0; n <= LENGTH + 8; n++)
+            if (n != LENGTH) refused(e, fresh, n, 0, 0, 0, "an image of another length was taken");
+        check(call(e, NULL, 0, 0, 0, 0, NULL, 0) == AM33C93A_BAD_NUMBER, "a null image was taken", e, 0);
+        taken(e, fresh, 0, 0, 0);
+        if (e == ENTRIES - 1) continue; /* am33c93a_fresh reads no image */
+        for (size_t i = 0; i < sizeof ranges / sizeof ranges[0]; i++)
+            for (int v = 0; v < 256; v++) {
+                uint8_t image[LENGTH] = {0};
+                image[ranges[i].at] = (uint8_t)v;
+                if (v >= ranges[i].limit) refused(e, image, LENGTH, 0, 0, 0, "bytes that are no image were taken");
+                else taken(e, image, 0, 0, 0);
+            }
+        for (int v = 1; v < 256; v++) { /* an ending's code without an ending, and a byte in an unused place of the FIFO */
+            uint8_t image[LENGTH] = {0};
+            image[29] = (uint8_t)v;
+            refused(e, image, LENGTH, 0, 0, 0, "a code without an ending was taken");
+            image[28] = 2;
+            taken(e, image, 0, 0, 0);
+            for (int k = 0; k < 12; k++) {
+                uint8_t other[LENGTH] = {0};
+                other[40] = (uint8_t)k;
+                other[41 + k] = (uint8_t)v;
+                refused(e, other, LENGTH, 0, 0, 0, "a byte in an unused place was taken");
+                other[40] = (uint8_t)(k + 1);
+                taken(e, other, 0, 0, 0);
+            }
+        }
+    }
+    for (int i = 0; i < EDGES; i++) {
+        uint32_t v = edge[i];
+        static const int byte_first[] = {3, 6};
+        for (int k = 0; k < 2; k++) {
+            if (v > 255) refused(byte_first[k], fresh, LENGTH, v, 0, 0, "an operand above 255 was taken");
+            else taken(byte_first[k], fresh, v, 0, 0);
+        }
+        static const int marked[] = {0, 2, BLOCK};
+        for (int k = 0; k < 3; k++) refused(marked[k], fresh, LENGTH, v, 0, 0, "a mark above 1 was taken");
+        for (uint32_t mark = 0; mark < 2; mark++)
+            for (int k = 0; k < 2; k++) {
+                if (v > 255) refused(marked[k], fresh, LENGTH, mark, v, 0, "a byte above 255 was taken");
+                else taken(marked[k], fresh, mark, v, 0);
+            }
+        refused(7, fresh, LENGTH, v, 0, 0, "a phase above 7 was taken");
+        refused(7, fresh, LENGTH, 0, 0, v, "a parity above 1 was taken");
+        if (v > 255) refused(7, fresh, LENGTH, 0, v, 0, "a byte above 255 was taken");
+        else taken(7, fresh, 0, v, 0);
+    }
+    refused(7, fresh, LENGTH, 8, 0, 0, "phase 8 was taken");
+    refused(7, fresh, LENGTH, 0, 0, 2, "parity 2 was taken");
+    for (int k = 0; k < 3; k++) refused((int[]){0, 2, BLOCK}[k], fresh, LENGTH, 2, 0, 0, "mark 2 was taken");
+
+    printf("refusals: %lu checks, %lu failed\n", checks, failures);
+    return failures != 0;
+}
