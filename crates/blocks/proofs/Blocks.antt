@@ -1,17 +1,16 @@
 -- A block, made of single accesses, is a run over the FIFO alone.
---   read-in          coming in, what `drained` moves; an ending settles once, after the last byte
---   read-unfixed     with no way fixed nothing is read
---   read-out         going out nothing is read
---   written-out      going out, what `filled` moves
---   written-unfixed  with no way fixed nothing is written
---   written-in       coming in nothing is written
+--   read-in          coming in: what `drained` moves; an ending settles once, after the last byte
+--   read-unfixed     no way fixed: nothing is read
+--   read-out         going out: nothing is read
+--   written-out      going out: what `filled` moves
+--   written-unfixed  no way fixed: nothing is written
+--   written-in       coming in: nothing is written
 --   written-bytes    a write leaves the slice as it is
-use mathlib.Core.Path.{_≡_, refl, ap, sym, _∙_}
-use mathlib.Core.Bool.{Bool, true, false}
+use mathlib.Core.Path.{_≡_, refl, ap, _∙_}
+use mathlib.Core.Bool.{true, false}
 use mathlib.Core.List.{List, [], _∷_}
-use Prim.Native.Nat.{ℕ, suc}
-use native.Mathlib.Omega.{arith}
-use borrow.Author.Tests.{ne-eqb}
+use Prim.Native.Nat.{ℕ}
+use lib.Dec.{eqb·suc-zero}
 use Rattle.chip.specs.Choice.{pick}
 use Rattle.chip.specs.State.{setFifo}
 use Rattle.chip.specs.Fifo.{isEmpty, front, pop, push}
@@ -25,7 +24,8 @@ use Rattle.chip.specs.declared.Direction.{Direction}
 use Rattle.chip.specs.declared.Direction.the-variants.{Unfixed, In, Out}
 use Rattle.chip.specs.declared.Pending.{Pending}
 use Rattle.chip.specs.declared.Pending.the-variants.{Nothing, Interrupt, Ending, ReadOut}
-use Rattle.blocks.specs.Blocks.{Run, more, drained, takes, filled, readBy, writtenBy}
+use Rattle.blocks.specs.Blocks.{Run, drained, takes, filled, readBy, writtenBy}
+use Rattle.blocks.proofs.Cases.{by-test}
 use Rattle.blocks.proofs.Runs.{drained-none, drained-more, filled-none, filled-more}
 
 -- ---- reads
@@ -60,7 +60,7 @@ settled-empty : (s : State) → isEmpty (s .fifo) ≡ true → settled s ≡ set
 unfolding settled pick
 settled-empty s e = rw e
 
--- settling keeps data coming in, and the FIFO
+-- data still comes in, and the FIFO is the same
 abbrev Kept : State → State → Type 0
 Kept s t = (t .transfer .direction ≡ In) × (t .fifo ≡ s .fifo)
 
@@ -71,18 +71,16 @@ settledBy-in Interrupt s d = (d, refl)
 settledBy-in (Ending c) s d = rw d (refl, refl)
 settledBy-in ReadOut s d = (d, refl)
 
--- a run over the FIFO after which an ending settles
+-- the run r, after which an ending settles
 abbrev readOut : Run → State → Moved
 readOut r s = record { number = r .moved; state = settled (setFifo (r .fifo) s); bytes = r .bytes }
 
--- the rest of a block, after an access: with the FIFO empty nothing more moves
-rest-read : (l : List ℕ) (s : State) (t : Bool) → s .transfer .direction ≡ In → isEmpty (s .fifo) ≡ t
-    → (isEmpty (s .fifo) ≡ false → blockRead l s ≡ readOut (drained l (s .fifo)) s)
+-- once the FIFO is empty an ending settles, and nothing more is read
+last-read : (l : List ℕ) (s : State) → s .transfer .direction ≡ In → isEmpty (s .fifo) ≡ true
     → blockRead l (settled s) ≡ readOut (drained l (s .fifo)) s
-rest-read l s true d e h =
+last-read l s d e =
     let k : Kept s (settled s) = rw (settled-empty s e) (settledBy-in (s .status .pending) s d) in
     empty-read l (settled s) (k .0) (ap isEmpty (k .1) ∙ e) ∙ rw (drained-none l (s .fifo) e)
-rest-read l s false d e h = rw (settled-waiting s e) (h e)
 
 waiting-read : (l : List ℕ) (s : State) → s .transfer .direction ≡ In → isEmpty (s .fifo) ≡ false
     → blockRead l s ≡ readOut (drained l (s .fifo)) s
@@ -91,19 +89,16 @@ waiting-read [] s d e = rw (settled-waiting s e)
 waiting-read (b ∷ l) s d e =
     let t : State = setFifo (pop (s .fifo)) s in
     one-read b l s d e
-    ∙ ap (andThen (front (s .fifo))) (rest-read l t (isEmpty (t .fifo)) d refl (waiting-read l t d))
+    ∙ ap (andThen (front (s .fifo)))
+    (by-test (isEmpty (t .fifo)) (last-read l t d) (λ w. rw (settled-waiting t w) (waiting-read l t d w)))
     ∙ rw (drained-more b l (s .fifo) e)
 
-read-in-by : (l : List ℕ) (s : State) (t : Bool) → s .transfer .direction ≡ In → isEmpty (s .fifo) ≡ t
-    → blockRead l s ≡ readBy (drained l (s .fifo)) s
-unfolding blockRead drained pick
-read-in-by l s true d e = empty-read l s d e ∙ rw (drained-none l (s .fifo) e)
-read-in-by [] s false d e = refl
-read-in-by (b ∷ l) s false d e =
-    rw (waiting-read (b ∷ l) s d e, drained-more b l (s .fifo) e, ne-eqb (suc (drained l (pop (s .fifo)) .moved)) 0 (λ z. omega arith))
-
 pub read-in : (l : List ℕ) (s : State) → s .transfer .direction ≡ In → blockRead l s ≡ readBy (drained l (s .fifo)) s
-read-in l s d = read-in-by l s (isEmpty (s .fifo)) d refl
+unfolding blockRead drained pick
+read-in [] s d = refl
+read-in (b ∷ l) s d =
+    by-test (isEmpty (s .fifo)) (λ e. empty-read (b ∷ l) s d e ∙ rw (drained-none (b ∷ l) (s .fifo) e))
+    (λ e. rw (waiting-read (b ∷ l) s d e, drained-more b l (s .fifo) e, eqb·suc-zero (drained l (pop (s .fifo)) .moved)))
 
 -- ---- writes
 
@@ -129,19 +124,14 @@ one-write : (b : ℕ) (l : List ℕ) (s : State) → s .transfer .direction ≡ 
 unfolding blockWritten dataWritten dbr left takes pick
 one-write b l s d e = rw (d, e)
 
-abbrev Filled : List ℕ → State → Type 0
-Filled l s = blockWritten l s ≡ writtenBy (filled (left s) l (s .fifo)) l s
-
-written-out-by : (b : ℕ) (l : List ℕ) (s : State) (t : Bool) → s .transfer .direction ≡ Out → takes (left s) (s .fifo) ≡ t
-    → Filled l (setFifo (push b (s .fifo)) s) → Filled (b ∷ l) s
-unfolding left
-written-out-by b l s true d e h = one-write b l s d e ∙ ap (andThen b) h ∙ rw (filled-more (left s) b l (s .fifo) e)
-written-out-by b l s false d e h = full-write (b ∷ l) s d e ∙ rw (filled-none (left s) (b ∷ l) (s .fifo) e)
-
 pub written-out : (l : List ℕ) (s : State) → s .transfer .direction ≡ Out → blockWritten l s ≡ writtenBy (filled (left s) l (s .fifo)) l s
-unfolding blockWritten filled
+unfolding blockWritten filled left
 written-out [] s d = refl
-written-out (b ∷ l) s d = written-out-by b l s (takes (left s) (s .fifo)) d refl (written-out l (setFifo (push b (s .fifo)) s) d)
+written-out (b ∷ l) s d =
+    let h = written-out l (setFifo (push b (s .fifo)) s) d in
+    by-test (takes (left s) (s .fifo))
+    (λ e. one-write b l s d e ∙ ap (andThen b) h ∙ rw (filled-more (left s) b l (s .fifo) e))
+    (λ e. full-write (b ∷ l) s d e ∙ rw (filled-none (left s) (b ∷ l) (s .fifo) e))
 
 written-bytes-by : (l : List ℕ) (s : State) (d : Direction) → s .transfer .direction ≡ d → blockWritten l s .bytes ≡ l
 written-bytes-by l s Unfixed e = rw (written-unfixed l s e)

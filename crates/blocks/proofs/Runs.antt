@@ -6,7 +6,7 @@
 --   filled-more    another takes the slice's first byte, and then the rest
 --   filled-most    no more is written than there is room for
 use mathlib.Core.Path.{_≡_, refl}
-use mathlib.Core.Bool.{Bool, true, false}
+use mathlib.Core.Bool.{true, false}
 use mathlib.Core.List.{List, [], _∷_}
 use Prim.Native.Nat.{ℕ, suc, _-_, _<_, _≤_, zero-le}
 use native.Mathlib.Omega.{arith}
@@ -16,6 +16,7 @@ use Rattle.chip.specs.Choice.{pick, both}
 use Rattle.chip.specs.Fifo.{isEmpty, hasRoom, waits, front, pop, push}
 use Rattle.chip.specs.declared.Fifo.{Fifo}
 use Rattle.blocks.specs.Blocks.{more, rest, drained, takes, filled}
+use Rattle.blocks.proofs.Cases.{by-test}
 
 pub drained-none : (l : List ℕ) (q : Fifo) → isEmpty q ≡ true → drained l q ≡ rest l q
 unfolding drained pick
@@ -32,17 +33,13 @@ waits-pop q e =
     let h = eqb-false (q .held) 0 e in
     rw e (omega arith)
 
-drained-most-by : (b : ℕ) (l : List ℕ) (q : Fifo) (t : Bool) → isEmpty q ≡ t
-    → drained l (pop q) .moved ≤ waits (pop q) → drained (b ∷ l) q .moved ≤ waits q
-drained-most-by b l q true e h = rw (drained-none (b ∷ l) q e) zero-le
-drained-most-by b l q false e h =
-    let w = waits-pop q e in
-    rw (drained-more b l q e) (omega arith)
-
 pub drained-most : (l : List ℕ) (q : Fifo) → drained l q .moved ≤ waits q
 unfolding drained
 drained-most [] q = zero-le
-drained-most (b ∷ l) q = drained-most-by b l q (isEmpty q) refl (drained-most l (pop q))
+drained-most (b ∷ l) q =
+    let h = drained-most l (pop q) in
+    by-test (isEmpty q) (λ e. rw (drained-none (b ∷ l) q e) zero-le)
+    (λ e. rw (drained-more b l q e) (omega (arith, waits-pop q e)))
 
 pub filled-none : (n : ℕ) (l : List ℕ) (q : Fifo) → takes n q ≡ false → filled n l q ≡ rest l q
 unfolding filled pick
@@ -53,10 +50,11 @@ pub filled-more : (n b : ℕ) (l : List ℕ) (q : Fifo) → takes n q ≡ true �
 unfolding filled pick
 filled-more n b l q e = rw e
 
-takes-room : (n : ℕ) (q : Fifo) (t : Bool) → ltb (waits q) n ≡ t → takes n q ≡ true → hasRoom q ≡ true
+takes-room : (n : ℕ) (q : Fifo) → takes n q ≡ true → hasRoom q ≡ true
 unfolding takes both
-takes-room n q true e h = rw e at h
-takes-room n q false e h = let z : false ≡ true = rw e at h in cc
+takes-room n q h =
+    by-test (ltb (waits q) n) (λ e. rw e at h)
+    (λ e. let z : false ≡ true = rw e at h in cc)
 
 room-waits : (q : Fifo) → hasRoom q ≡ true → waits q < 12
 unfolding hasRoom waits
@@ -66,16 +64,13 @@ waits-push : (b : ℕ) (q : Fifo) → hasRoom q ≡ true → waits (push b q) �
 unfolding waits push pick
 waits-push b q e = rw e (omega arith)
 
-filled-most-by : (n b : ℕ) (l : List ℕ) (q : Fifo) (t : Bool) → takes n q ≡ t
-    → filled n l (push b q) .moved ≤ 12 - waits (push b q) → filled n (b ∷ l) q .moved ≤ 12 - waits q
-filled-most-by n b l q false e h = rw (filled-none n (b ∷ l) q e) zero-le
-filled-most-by n b l q true e h =
-    let r = takes-room n q (ltb (waits q) n) refl e in
-    let w = waits-push b q r in
-    let m = room-waits q r in
-    rw (filled-more n b l q e) (omega arith)
-
 pub filled-most : (n : ℕ) (l : List ℕ) (q : Fifo) → filled n l q .moved ≤ 12 - waits q
 unfolding filled
 filled-most n [] q = zero-le
-filled-most n (b ∷ l) q = filled-most-by n b l q (takes n q) refl (filled-most n l (push b q))
+filled-most n (b ∷ l) q =
+    let h = filled-most n l (push b q) in
+    by-test (takes n q)
+    (λ e.
+    let r = takes-room n q e in
+    rw (filled-more n b l q e) (omega (arith, waits-push b q r, room-waits q r)))
+    (λ e. rw (filled-none n (b ∷ l) q e) zero-le)

@@ -29,11 +29,11 @@ unfoldable pub drained : List ℕ → Fifo → Run
 drained [] q = rest [] q
 drained (b ∷ l) q = pick (isEmpty q) (rest (b ∷ l) q) (more (front q) (drained l (pop q)))
 
--- fewer wait than n, and there is room
+-- with n bytes left to cross the FIFO takes another: fewer wait than that, and there is room
 unfoldable pub takes : ℕ → Fifo → Bool
 takes n q = both (ltb (waits q) n) (hasRoom q)
 
--- the slice is written into the FIFO, which is to hold n, as far as both go
+-- the slice written into the FIFO, as far as both go
 unfoldable pub filled : ℕ → List ℕ → Fifo → Run
 filled n [] q = rest [] q
 filled n (b ∷ l) q =

@@ -1,8 +1,8 @@
 // Block moves: chip's blockRead and blockWritten, single accesses to the Data register until the slice ends or answer 7 would come.
-// The loops go over the FIFO alone; the state is made anew once, after them.
+// The loops go over the FIFO alone, and the state is made anew once.
 ghost use mathlib.Core.Path.{_≡_};
-ghost use Rattle.chip.specs.Registers.{blockRead, blockWritten};
 ghost use Rattle.blocks.specs.Blocks.{drained, filled, takes};
+ghost use Rattle.chip.specs.Registers.{blockRead, blockWritten};
 use chip::Direction;
 use chip::Fifo;
 use chip::State;
@@ -31,19 +31,15 @@ fn drain(q: Fifo, out: &mut [u8]) -> Run
     let mut i = 0;
     while i < out.len() {
         if fifo::is_empty(t) {
-            return Run {
-                moved: i as u8,
-                fifo: t,
-            };
+            let moved = i as u8;
+            return Run { moved, fifo: t };
         }
         out[i] = fifo::front(t);
         t = fifo::pop(t);
         i += 1;
     }
-    Run {
-        moved: i as u8,
-        fifo: t,
-    }
+    let moved = i as u8;
+    Run { moved, fifo: t }
 }
 
 fn takes(n: u32, q: Fifo) -> bool
@@ -65,16 +61,12 @@ fn fill(n: u32, q: Fifo, from: &[u8]) -> Run
             t = fifo::push(from[i], t);
             i += 1;
         } else {
-            return Run {
-                moved: i as u8,
-                fifo: t,
-            };
+            let moved = i as u8;
+            return Run { moved, fifo: t };
         }
     }
-    Run {
-        moved: i as u8,
-        fifo: t,
-    }
+    let moved = i as u8;
+    Run { moved, fifo: t }
 }
 
 pub fn block_read(s: State, out: &mut [u8]) -> Moved
@@ -82,20 +74,32 @@ pub fn block_read(s: State, out: &mut [u8]) -> Moved
 {
     let direction = get::direction(s);
     match direction {
-        Direction::Unfixed => Moved { number: 0, state: s },
+        Direction::Unfixed => Moved {
+            number: 0,
+            state: s,
+        },
         Direction::In => {
             let q = s.fifo;
-            let d = drain(q, out);
-            let number = d.moved;
+            let run = drain(q, out);
+            let number = run.moved;
             if number == 0 {
-                return Moved { number: 0, state: s };
+                return Moved {
+                    number: 0,
+                    state: s,
+                };
             }
-            let rest = d.fifo;
-            let emptied = set::fifo(s, rest);
-            let state = interrupts::settled(emptied);
-            Moved { number, state }
+            let rest = run.fifo;
+            let read = set::fifo(s, rest);
+            let settled = interrupts::settled(read);
+            Moved {
+                number,
+                state: settled,
+            }
         }
-        Direction::Out => Moved { number: 0, state: s },
+        Direction::Out => Moved {
+            number: 0,
+            state: s,
+        },
     }
 }
 
@@ -104,13 +108,19 @@ pub fn block_written(s: State, from: &[u8]) -> Moved
 {
     let direction = get::direction(s);
     match direction {
-        Direction::Unfixed => Moved { number: 0, state: s },
-        Direction::In => Moved { number: 0, state: s },
+        Direction::Unfixed => Moved {
+            number: 0,
+            state: s,
+        },
+        Direction::In => Moved {
+            number: 0,
+            state: s,
+        },
         Direction::Out => {
             let q = s.fifo;
-            let f = fill(count::left(s), q, from);
-            let number = f.moved;
-            let rest = f.fifo;
+            let run = fill(count::left(s), q, from);
+            let number = run.moved;
+            let rest = run.fifo;
             let state = set::fifo(s, rest);
             Moved { number, state }
         }

@@ -1,4 +1,4 @@
--- What the image's form asks of a state, and of a list of bytes: what the laws of the image suppose, and nothing that code is asked for.
+-- What the image's form asks of a state, and of a list of bytes. The laws of the image suppose it; no code requires it.
 use mathlib.Core.Path.{_≡_}
 use mathlib.Core.Bool.{true}
 use mathlib.Core.List.{List}

@@ -27,7 +27,7 @@ use chip::Transfer;
 use chip::Wire;
 ghost use mathlib.Core.Path.{_≡_};
 ghost use Prim.Native.Nat.{_+_, _*_, _/_, _%_};
-ghost use lib.ListN.{length};
+ghost use lib.ListN.{length, take, drop};
 ghost use lib.Seq.{sets};
 ghost use Rattle.chip.specs.State.{fresh};
 ghost use Rattle.chip.specs.Image.{stateOf, headBytes, middleBytes, imageOf};
@@ -210,22 +210,12 @@ fn put_head(s: State, image: &mut [u8])
     image[2] = s.registers.timeout;
 }
 
-// Bytes 15 to 40.
-fn put_middle(s: State, image: &mut [u8])
+// Bytes 15 to 22: the registers after the command bytes.
+fn put_registers(s: State, image: &mut [u8])
     requires { ⌜ length (now image) ≡ 53 ⌝ }
-    ensures { λ _. ⌜ now (image .exit) ≡ sets (now (image .entry)) 15 (middleBytes s) ⌝ }
+    ensures { λ _. ⌜ now (image .exit) ≡ sets (now (image .entry)) 15 (take 8 (middleBytes s)) ⌝ }
 {
     let registers = s.registers;
-    let status = s.status;
-    let fifo = s.fifo;
-    let transfer = s.transfer;
-    let wire = s.wire;
-    let pending = status.pending;
-    let connection = wire.connection;
-    let running = transfer.running;
-    let direction = transfer.direction;
-    let reported = wire.reported;
-    let last = wire.last;
     image[15] = registers.lun;
     image[16] = registers.phase;
     image[17] = registers.synchronous;
@@ -234,6 +224,15 @@ fn put_middle(s: State, image: &mut [u8])
     image[20] = low_byte(registers.count);
     image[21] = registers.destination;
     image[22] = registers.source;
+}
+
+// Bytes 23 to 29: what the host sees beside them.
+fn put_status(s: State, image: &mut [u8])
+    requires { ⌜ length (now image) ≡ 53 ⌝ }
+    ensures { λ _. ⌜ now (image .exit) ≡ sets (now (image .entry)) 23 (take 7 (drop 8 (middleBytes s))) ⌝ }
+{
+    let status = s.status;
+    let pending = status.pending;
     image[23] = status.code;
     image[24] = status.command;
     image[25] = status.pointer;
@@ -241,6 +240,21 @@ fn put_middle(s: State, image: &mut [u8])
     image[27] = bit_of(status.pe);
     image[28] = pending_byte(pending);
     image[29] = ending_byte(pending);
+}
+
+// Bytes 30 to 40: the bus, the running command, and how many bytes wait.
+fn put_rest(s: State, image: &mut [u8])
+    requires { ⌜ length (now image) ≡ 53 ⌝ }
+    ensures { λ _. ⌜ now (image .exit) ≡ sets (now (image .entry)) 30 (drop 15 (middleBytes s)) ⌝ }
+{
+    let fifo = s.fifo;
+    let transfer = s.transfer;
+    let wire = s.wire;
+    let connection = wire.connection;
+    let running = transfer.running;
+    let direction = transfer.direction;
+    let reported = wire.reported;
+    let last = wire.last;
     image[30] = connection_byte(connection);
     image[31] = running_byte(running);
     image[32] = direction_byte(direction);
@@ -252,6 +266,16 @@ fn put_middle(s: State, image: &mut [u8])
     image[38] = wire.identity.number;
     image[39] = wire.elapsed;
     image[40] = fifo.held;
+}
+
+// Bytes 15 to 40.
+fn put_middle(s: State, image: &mut [u8])
+    requires { ⌜ length (now image) ≡ 53 ⌝ }
+    ensures { λ _. ⌜ now (image .exit) ≡ sets (now (image .entry)) 15 (middleBytes s) ⌝ }
+{
+    put_registers(s, image);
+    put_status(s, image);
+    put_rest(s, image);
 }
 
 pub(crate) fn put_image(s: State, image: &mut [u8])

@@ -1,22 +1,17 @@
 -- `blocks::drain` meets its contract: its loop is a run of `drained`. What moved waited, so its number fits.
 use mathlib.Core.Path.{_≡_, refl, ap, sym, _∙_}
-use mathlib.Core.Bool.{true, false}
-use Prim.Native.Nat.{suc, _-_, _<_}
+use mathlib.Core.Bool.{false}
+use Prim.Native.Nat.{_-_, _<_}
 use native.Mathlib.Omega.{arith}
-use lib.ListN.{length, getD, drop}
+use lib.ListN.{length}
 use lib.Seq.{drop-cons}
 use borrow.Author.Needs.{needs}
 use Rattle.chip.specs.Fifo.{waits, isEmpty}
-use Rattle.blocks.specs.Blocks.{Run, more, rest, drained}
+use Rattle.blocks.specs.Blocks.{Run, drained}
 use Rattle.blocks.proofs.Runs.{drained-none, drained-more, drained-most}
 use Rattle.blocks.proofs.Going.{Going, Made, start, turn, over, full}
 use Rattle.blocks.proofs.drain.Statement.{statement}
 use Rattle.blocks.proofs.drain.Tie as tie
-use Rattle.blocks.proofs.drain.Reads as reads
-use Rattle.blocks.proofs.drain.Lts as lts
-use Rattle.endings.proofs.fifo.front.Reads as front-reads
-use Rattle.endings.proofs.fifo.is_empty.Reads as is-empty-reads
-use Rattle.endings.proofs.fifo.pop.Reads as pop-reads
 
 abbrev Inv-loop : tie.InvT-loop
 Inv-loop out₀ t₀ i₀ out t i = Going drained out₀ t₀ out t i
@@ -50,47 +45,36 @@ fits a e =
     let h = held-fits (a .before .before) in
     omega arith
 
--- src/lib.rt:32:5
 loop-holds : tie.Need-loop-holds Inv-loop μ-loop
 loop-holds c = start drained (c .before .args .out .now) (c .before .args .q)
 
--- src/lib.rt:33:12
 is-empty-requires : tie.Need-is-empty-requires Inv-loop μ-loop
 is-empty-requires c κs = tt
 
--- src/lib.rt:35:24
-cast-t8 : tie.Need-cast-t8 Inv-loop μ-loop
-cast-t8 c = omega (arith, fits (c .before .before .before) (emptied c))
+cast-moved : tie.Need-cast-moved Inv-loop μ-loop
+cast-moved c = omega (arith, fits (c .before .before .before) (emptied c))
 
--- src/lib.rt:34:13
 same-length : tie.Need-same-length Inv-loop μ-loop
 same-length c = c .before .before .before .loop .inv .long
 
--- src/lib.rt:34:13
 returns : tie.Need-returns Inv-loop μ-loop
 returns c = rw (emptied c) (refl, refl, refl)
 
--- src/lib.rt:39:18
 front-requires : tie.Need-front-requires Inv-loop μ-loop
 front-requires c κs = tt
 
--- src/lib.rt:39:9
 slice-write-out : tie.Need-slice-write-out Inv-loop μ-loop
 slice-write-out c = c .before .before .before .loop-test .taken
 
--- src/lib.rt:40:9
 pop-requires : tie.Need-pop-requires Inv-loop μ-loop
 pop-requires c κs = tt
 
--- src/lib.rt:41:9
 add-i : tie.Need-add-i Inv-loop μ-loop
 add-i c = omega arith
 
--- src/lib.rt:32:5
 loop-less : tie.Need-loop-less Inv-loop μ-loop
 loop-less c = omega (arith, c .before .before .before .before .before .loop .inv .long)
 
--- src/lib.rt:32:5
 loop-again : tie.Need-loop-again Inv-loop μ-loop
 loop-again c =
     let a = c .before .before .before .before .before in
@@ -99,15 +83,12 @@ loop-again c =
     turn (a .loop .inv) _ _ h
     (rw (drop-cons (a .loop .out) (a .loop .i) 0 h, c .pop .ensures, c .before .front .ensures) (drained-more _ _ _ e))
 
--- src/lib.rt:44:16
-cast-t11 : tie.Need-cast-t11 Inv-loop μ-loop
-cast-t11 c = omega (arith, fits (c .before) (ended c))
+cast-moved-2 : tie.Need-cast-moved-2 Inv-loop μ-loop
+cast-moved-2 c = omega (arith, fits (c .before) (ended c))
 
--- src/lib.rt:27:1
 same-length-2 : tie.Need-same-length-2 Inv-loop μ-loop
 same-length-2 c = c .before .loop .inv .long
 
--- src/lib.rt:27:1
 returns-2 : tie.Need-returns-2 Inv-loop μ-loop
 returns-2 c = rw (ended c) (refl, refl, refl)
 
@@ -119,7 +100,7 @@ drain-spec =
     μ-loop
     loop-holds
     is-empty-requires
-    cast-t8
+    cast-moved
     same-length
     returns
     front-requires
@@ -128,6 +109,6 @@ drain-spec =
     add-i
     loop-less
     loop-again
-    cast-t11
+    cast-moved-2
     same-length-2
     returns-2)

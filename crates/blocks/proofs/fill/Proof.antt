@@ -1,19 +1,15 @@
 -- `blocks::fill` meets its contract: its loop is a run of `filled`. What moved had room, so its number fits.
 use mathlib.Core.Path.{_≡_, refl, ap, sym, _∙_}
-use mathlib.Core.Bool.{true, false}
-use Prim.Native.Nat.{suc, _-_, _<_}
+use mathlib.Core.Bool.{true}
+use Prim.Native.Nat.{_-_, _<_}
 use native.Mathlib.Omega.{arith}
-use lib.ListN.{length, getD, drop, set}
+use lib.ListN.{length, getD}
 use lib.Seq.{drop-cons, set-getD}
-use Rattle.blocks.specs.Blocks.{Run, more, rest, takes, filled}
+use Rattle.blocks.specs.Blocks.{Run, takes, filled}
 use Rattle.blocks.proofs.Runs.{filled-none, filled-more, filled-most}
 use Rattle.blocks.proofs.Going.{Going, Made, start, turn, over, full}
 use Rattle.blocks.proofs.fill.Statement.{statement}
 use Rattle.blocks.proofs.fill.Tie as tie
-use Rattle.blocks.proofs.fill.Reads as reads
-use Rattle.blocks.proofs.fill.Lts as lts
-use Rattle.blocks.proofs.takes.Reads as takes-reads
-use Rattle.endings.proofs.fifo.push.Reads as push-reads
 
 abbrev Inv-loop : tie.InvT-loop
 Inv-loop n from t₀ i₀ t i = Going (filled n) from t₀ from t i
@@ -46,31 +42,24 @@ fits a e =
     let w = filled-most (x .n) (x .from .now) (x .q) in
     omega arith
 
--- src/lib.rt:63:5
 loop-holds : tie.Need-loop-holds Inv-loop μ-loop
 loop-holds c = start (filled (c .before .args .n)) (c .before .args .from .now) (c .before .args .q)
 
--- src/lib.rt:64:12
 takes-requires : tie.Need-takes-requires Inv-loop μ-loop
 takes-requires c κs = tt
 
--- src/lib.rt:65:28
 shared-slice-read-push : tie.Need-shared-slice-read-push Inv-loop μ-loop
 shared-slice-read-push c = c .before .before .before .loop-test .taken
 
--- src/lib.rt:65:13
 push-requires : tie.Need-push-requires Inv-loop μ-loop
 push-requires c κs = tt
 
--- src/lib.rt:66:13
 add-i : tie.Need-add-i Inv-loop μ-loop
 add-i c = omega arith
 
--- src/lib.rt:63:5
 loop-less : tie.Need-loop-less Inv-loop μ-loop
 loop-less c = omega arith
 
--- src/lib.rt:63:5
 loop-again : tie.Need-loop-again Inv-loop μ-loop
 loop-again c =
     let a = c .before .before .before .before .before in
@@ -80,19 +69,15 @@ loop-again c =
     rw set-getD at (turn (a .loop .inv) (c .push .result) (getD (x .from .now) (a .loop .i) 0) h
     (rw (drop-cons (x .from .now) (a .loop .i) 0 h, c .push .ensures) (filled-more _ _ _ _ e)))
 
--- src/lib.rt:69:24
-cast-t11 : tie.Need-cast-t11 Inv-loop μ-loop
-cast-t11 c = omega (arith, fits (c .before .before .before) (stopped c))
+cast-moved : tie.Need-cast-moved Inv-loop μ-loop
+cast-moved c = omega (arith, fits (c .before .before .before) (stopped c))
 
--- src/lib.rt:68:13
 returns : tie.Need-returns Inv-loop μ-loop
 returns c = rw (stopped c) (refl, refl)
 
--- src/lib.rt:75:16
-cast-t12 : tie.Need-cast-t12 Inv-loop μ-loop
-cast-t12 c = omega (arith, fits (c .before) (ended c))
+cast-moved-2 : tie.Need-cast-moved-2 Inv-loop μ-loop
+cast-moved-2 c = omega (arith, fits (c .before) (ended c))
 
--- src/lib.rt:58:1
 returns-2 : tie.Need-returns-2 Inv-loop μ-loop
 returns-2 c = rw (ended c) (refl, refl)
 
@@ -109,7 +94,7 @@ fill-spec =
     add-i
     loop-less
     loop-again
-    cast-t11
+    cast-moved
     returns
-    cast-t12
+    cast-moved-2
     returns-2)

@@ -1,32 +1,24 @@
+-- `blocks::takes` meets its contract: each way through the code is the definition's own way.
 use borrow.Author.Tests.{le-ltb, lt-ltb}
 use Rattle.blocks.specs.Blocks.{takes}
 use Rattle.chip.specs.Choice.{both}
 use borrow.Author.Needs.{needs}
 use Rattle.blocks.proofs.takes.Statement.{statement}
 use Rattle.blocks.proofs.takes.Tie as tie
-use Rattle.blocks.proofs.takes.Reads as reads
-use Rattle.blocks.proofs.takes.Lts as lts
-use Rattle.endings.proofs.fifo.has_room.Reads as has-room-reads
-use Rattle.endings.proofs.fifo.waits.Reads as waits-reads
 
--- src/lib.rt:52:9
 waits-requires : tie.Need-waits-requires
 waits-requires c κs = search needs
 
--- src/lib.rt:52:9
 cast-if1 : tie.Need-cast-if1
 cast-if1 c = search needs
 
--- src/lib.rt:53:9
 has-room-requires : tie.Need-has-room-requires
 has-room-requires c κs = search needs
 
--- src/lib.rt:53:9
 returns : tie.Need-returns
 unfolding takes both
 returns c = simp (← c .before .before .waits .ensures, lt-ltb _ _ (c .before .if1 .taken), c .has-room .ensures)
 
--- src/lib.rt:49:1
 returns-2 : tie.Need-returns-2
 unfolding takes both
 returns-2 c = simp (← c .before .waits .ensures, le-ltb _ _ (c .if1 .left))
