@@ -80,15 +80,15 @@ pub fn block_read(s: State, out: &mut [u8]) -> Moved
         },
         Direction::In => {
             let q = s.fifo;
-            let run = drain(q, out);
-            let number = run.moved;
+            let drained = drain(q, out);
+            let number = drained.moved;
             if number == 0 {
                 return Moved {
                     number: 0,
                     state: s,
                 };
             }
-            let rest = run.fifo;
+            let rest = drained.fifo;
             let read = set::fifo(s, rest);
             let settled = interrupts::settled(read);
             Moved {
@@ -118,9 +118,9 @@ pub fn block_written(s: State, from: &[u8]) -> Moved
         },
         Direction::Out => {
             let q = s.fifo;
-            let run = fill(count::left(s), q, from);
-            let number = run.moved;
-            let rest = run.fifo;
+            let filled = fill(count::left(s), q, from);
+            let number = filled.moved;
+            let rest = filled.fifo;
             let state = set::fifo(s, rest);
             Moved { number, state }
         }

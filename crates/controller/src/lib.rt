@@ -29,7 +29,7 @@ pub extern "C" fn am33c93a_fresh(image: &mut [u8]) -> u32
     ensures { λ r. ⌜ (r ≡ freshEntered (now (image .entry)) .result) × (now (image .exit) ≡ freshEntered (now (image .entry)) .image) ⌝ }
 {
     if image.len() == 53 {
-        finish::fresh(image);
+        image::write(image::fresh_state(), image);
         return 0;
     }
     BAD_NUMBER

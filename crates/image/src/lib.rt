@@ -12,6 +12,7 @@ ghost use mathlib.Core.Path.{_≡_};
 ghost use lib.Dec.{eqb};
 ghost use lib.ListN.{length};
 ghost use Rattle.chip.specs.Choice.{pick};
+ghost use Rattle.chip.specs.State.{fresh};
 ghost use Rattle.chip.specs.Image.{isImage, imageOf};
 ghost use Rattle.image.specs.Read.{readOf};
 
@@ -66,4 +67,11 @@ pub fn write(s: State, image: &mut [u8])
     if image.len() == 53 {
         put_image(s, image);
     }
+}
+
+// A controller as it is when it is new.
+pub fn fresh_state() -> State
+    ensures { λ r. ⌜ r ≡ fresh ⌝ }
+{
+    fresh()
 }

@@ -64,7 +64,7 @@ front-requires : tie.Need-front-requires Inv-loop μ-loop
 front-requires c κs = tt
 
 slice-write-out : tie.Need-slice-write-out Inv-loop μ-loop
-slice-write-out c = c .before .before .before .loop-test .taken
+slice-write-out c = omega arith
 
 pop-requires : tie.Need-pop-requires Inv-loop μ-loop
 pop-requires c κs = tt
