@@ -548,7 +548,7 @@ static uint32_t transfer_request(struct plain *p, uint8_t phase, uint8_t byte, b
     if (left(p) == 0) return reported(p, phase, AM33C93A_CODE_TRANSFERRED_PHASE + phase);
     if (phase != p->reported) return unexpected(p, phase);
     uint32_t r = phase & 1 ? move_in(p, phase, byte, bad) : move_out(p, phase);
-    if (left(p) != 0) return r;
+    if (AM33C93A_ANSWER(r) != AM33C93A_DONE || left(p) != 0) return r;
     if (phase == AM33C93A_MESSAGE_OUT) p->atn = false;
     if (phase == AM33C93A_MESSAGE_IN) {
         p->held_ack = true;
@@ -588,7 +588,7 @@ static uint32_t data_request(struct plain *p, uint8_t phase, uint8_t byte, bool 
         return result(AM33C93A_REPORTED, 0);
     }
     uint32_t r = direction == PLAIN_IN ? move_in(p, phase, byte, bad) : move_out(p, phase);
-    if (left(p) == 0) p->stored[AM33C93A_COMMAND_PHASE] = 0x46;
+    if (AM33C93A_ANSWER(r) == AM33C93A_DONE && left(p) == 0) p->stored[AM33C93A_COMMAND_PHASE] = 0x46;
     return r;
 }
 

@@ -36,8 +36,7 @@ takes n q = both (ltb (waits q) n) (hasRoom q)
 -- the slice written into the FIFO, as far as both go
 unfoldable pub filled : ℕ → List ℕ → Fifo → Run
 filled n [] q = rest [] q
-filled n (b ∷ l) q =
-    pick (takes n q) (more b (filled n l (push b q))) (rest (b ∷ l) q)
+filled n (b ∷ l) q = pick (takes n q) (more b (filled n l (push b q))) (rest (b ∷ l) q)
 
 -- the run r as a block of reads: an ending settles once, after the last byte
 abbrev pub readBy : Run → State → Moved

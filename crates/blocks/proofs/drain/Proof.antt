@@ -80,7 +80,7 @@ loop-again c =
     let a = c .before .before .before .before .before in
     let h = c .before .before .before .before .loop-test .taken in
     let e : isEmpty (a .loop .t) ≡ false = sym (c .before .before .before .is-empty .ensures) ∙ c .before .before .if1 .left in
-    turn (a .loop .inv) _ _ h
+    turn (a .loop .inv) (c .pop .result) (c .before .front .result) h
     (rw (drop-cons (a .loop .out) (a .loop .i) 0 h, c .pop .ensures, c .before .front .ensures) (drained-more _ _ _ e))
 
 cast-moved-2 : tie.Need-cast-moved-2 Inv-loop μ-loop

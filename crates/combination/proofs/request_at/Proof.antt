@@ -1,119 +1,87 @@
+-- `combination::request_at` meets its contract: each way through the code is the definition's own way.
 use mathlib.Core.Path.{subst}
 use Rattle.combination.specs.Sendable.{Sendable}
 use Rattle.chip.specs.SelectAndTransfer.{requestAt}
 use borrow.Author.Needs.{needs}
 use Rattle.combination.proofs.request_at.Statement.{statement}
 use Rattle.combination.proofs.request_at.Tie as tie
-use Rattle.combination.proofs.request_at.Reads as reads
-use Rattle.combination.proofs.request_at.Lts as lts
-use Rattle.combination.proofs.body_request.Reads as body-request-reads
-use Rattle.combination.proofs.late_request.Reads as late-request-reads
-use Rattle.combination.proofs.send_command.Reads as send-command-reads
-use Rattle.combination.proofs.send_identify.Reads as send-identify-reads
-use Rattle.combination.proofs.take.complete.Reads as complete-reads
-use Rattle.combination.proofs.take.identify.Reads as identify-reads
-use Rattle.combination.proofs.take.unexpected.Reads as unexpected-reads
 
--- src/lib.rt:167:32
 enum-told : tie.Need-enum-told
 enum-told c = search needs
 
--- src/lib.rt:167:32
 send-identify-requires : tie.Need-send-identify-requires
 send-identify-requires c κs = search needs
 
--- src/lib.rt:168:28
 enum-known-stage : tie.Need-enum-known-stage
 enum-known-stage c = search needs
 
--- src/lib.rt:168:34
 send-command-requires : tie.Need-send-command-requires
 send-command-requires c κs = subst Sendable (c .before .stage .given .1) (c .before .before .before .pre)
 
--- src/lib.rt:169:24
 enum-told-2 : tie.Need-enum-told-2
 enum-told-2 c = search needs
 
--- src/lib.rt:169:24
 body-request-requires : tie.Need-body-request-requires
 body-request-requires c κs = search needs
 
--- src/lib.rt:170:29
 enum-told-3 : tie.Need-enum-told-3
 enum-told-3 c = search needs
 
--- src/lib.rt:170:29
 late-request-requires : tie.Need-late-request-requires
 late-request-requires c κs = search needs
 
--- src/lib.rt:171:33
 enum-told-4 : tie.Need-enum-told-4
 enum-told-4 c = search needs
 
--- src/lib.rt:171:33
 unexpected-requires : tie.Need-unexpected-requires
 unexpected-requires c κs = search needs
 
--- src/lib.rt:172:30
 enum-told-5 : tie.Need-enum-told-5
 enum-told-5 c = search needs
 
--- src/lib.rt:172:30
 identify-requires : tie.Need-identify-requires
 identify-requires c κs = search needs
 
--- src/lib.rt:173:31
 enum-told-6 : tie.Need-enum-told-6
 enum-told-6 c = search needs
 
--- src/lib.rt:173:31
 complete-requires : tie.Need-complete-requires
 complete-requires c κs = search needs
 
--- src/lib.rt:174:29
 enum-told-7 : tie.Need-enum-told-7
 enum-told-7 c = search needs
 
--- src/lib.rt:174:29
 unexpected-requires-2 : tie.Need-unexpected-requires-2
 unexpected-requires-2 c κs = search needs
 
--- src/lib.rt:162:1
 returns : tie.Need-returns
 unfolding requestAt
 returns c = simp (c .before .enum-told .given .1, c .send-identify .ensures)
 
--- src/lib.rt:162:1
 returns-2 : tie.Need-returns-2
 unfolding requestAt
 returns-2 c = simp (c .before .before .stage .given .1, c .send-command .ensures)
 
--- src/lib.rt:162:1
 returns-3 : tie.Need-returns-3
 unfolding requestAt
 returns-3 c = simp (c .before .enum-told2 .given .1, c .body-request .ensures)
 
--- src/lib.rt:162:1
 returns-4 : tie.Need-returns-4
 unfolding requestAt
 returns-4 c = simp (c .before .enum-told3 .given .1, c .late-request .ensures)
 
--- src/lib.rt:162:1
 returns-5 : tie.Need-returns-5
 unfolding requestAt
 returns-5 c = simp (c .before .enum-told4 .given .1, c .unexpected .ensures)
 
--- src/lib.rt:162:1
 returns-6 : tie.Need-returns-6
 unfolding requestAt
 returns-6 c = simp (c .before .enum-told5 .given .1, c .identify .ensures)
 
--- src/lib.rt:162:1
 returns-7 : tie.Need-returns-7
 unfolding requestAt
 returns-7 c = simp (c .before .enum-told6 .given .1, c .complete .ensures)
 
--- src/lib.rt:162:1
 returns-8 : tie.Need-returns-8
 unfolding requestAt
 returns-8 c = simp (c .before .enum-told7 .given .1, c .unexpected2 .ensures)

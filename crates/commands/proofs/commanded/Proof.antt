@@ -1,3 +1,4 @@
+-- `commands::commanded` meets its contract: each way through the code is the definition's own way.
 use mathlib.Core.Path.{sym, _∙_}
 use borrow.Author.Tests.{eq-eqb, ne-eqb}
 use Rattle.chip.specs.Commands.{commanded}
@@ -5,97 +6,65 @@ use Rattle.chip.specs.Choice.{pick}
 use borrow.Author.Needs.{needs}
 use Rattle.commands.proofs.commanded.Statement.{statement}
 use Rattle.commands.proofs.commanded.Tie as tie
-use Rattle.commands.proofs.commanded.Reads as reads
-use Rattle.commands.proofs.commanded.Lts as lts
-use Rattle.commands.proofs.accept.accepted.Reads as accepted-reads
-use Rattle.commands.proofs.accept.is_refused_busy.Reads as is-refused-busy-reads
-use Rattle.commands.proofs.accept.is_valid.Reads as is-valid-reads
-use Rattle.commands.proofs.act.reset.Reads as reset-reads
-use Rattle.commands.proofs.carried_out.Reads as carried-out-reads
-use Rattle.endings.proofs.interrupts.interrupt.Reads as interrupt-reads
-use Rattle.endings.proofs.interrupts.interrupted.Reads as interrupted-reads
-use Rattle.lines.proofs.code_of.Reads as code-of-reads
-use Rattle.lines.proofs.is_single.Reads as is-single-reads
-use Rattle.state.proofs.answers.done.Reads as done-reads
-use Rattle.state.proofs.answers.ignored.Reads as ignored-reads
 
--- src/lib.rt:52:9
 code-of-requires : tie.Need-code-of-requires
 code-of-requires c κs = search needs
 
--- src/lib.rt:54:33
 reset-requires : tie.Need-reset-requires
 reset-requires c κs = search needs
 
--- src/lib.rt:54:9
 done-requires : tie.Need-done-requires
 done-requires c κs = search needs
 
--- src/lib.rt:54:9
 returns : tie.Need-returns
 unfolding commanded pick
 returns c = simp (sym (c .before .before .before .code-of .ensures), eq-eqb _ _ (c .before .before .if1 .taken), c .before .reset .ensures, c .done .ensures)
 
--- src/lib.rt:56:8
 interrupted-requires : tie.Need-interrupted-requires
 interrupted-requires c κs = search needs
 
--- src/lib.rt:57:9
 ignored-requires : tie.Need-ignored-requires
 ignored-requires c κs = search needs
 
--- src/lib.rt:57:9
 returns-2 : tie.Need-returns-2
 unfolding commanded pick
 returns-2 c = simp (sym (c .before .before .before .before .code-of .ensures), ne-eqb _ _ (c .before .before .before .if1 .left), c .before .before .interrupted .ensures, sym (c .before .before .interrupted .ensures) ∙ (c .before .if2 .taken), c .ignored .ensures)
 
--- src/lib.rt:59:8
 is-refused-busy-requires : tie.Need-is-refused-busy-requires
 is-refused-busy-requires c κs = search needs
 
--- src/lib.rt:60:9
 ignored-requires-2 : tie.Need-ignored-requires-2
 ignored-requires-2 c κs = search needs
 
--- src/lib.rt:60:9
 returns-3 : tie.Need-returns-3
 unfolding commanded pick
 returns-3 c = simp (sym (c .before .before .before .before .before .before .code-of .ensures), ne-eqb _ _ (c .before .before .before .before .before .if1 .left), c .before .before .before .before .interrupted .ensures, sym (c .before .before .before .before .interrupted .ensures) ∙ (c .before .before .before .if2 .left), c .before .before .is-refused-busy .ensures, sym (c .before .before .is-refused-busy .ensures) ∙ (c .before .if3 .taken), c .ignored2 .ensures)
 
--- src/lib.rt:62:9
 accepted-requires : tie.Need-accepted-requires
 accepted-requires c κs = search needs
 
--- src/lib.rt:63:8
 is-valid-requires : tie.Need-is-valid-requires
 is-valid-requires c κs = search needs
 
--- src/lib.rt:64:48
 is-single-requires : tie.Need-is-single-requires
 is-single-requires c κs = search needs
 
--- src/lib.rt:64:33
 carried-out-requires : tie.Need-carried-out-requires
 carried-out-requires c κs = search needs
 
--- src/lib.rt:64:9
 done-requires-2 : tie.Need-done-requires-2
 done-requires-2 c κs = search needs
 
--- src/lib.rt:64:9
 returns-4 : tie.Need-returns-4
 unfolding commanded pick
 returns-4 c = simp (sym (c .before .before .before .before .before .before .before .before .before .before .before .code-of .ensures), ne-eqb _ _ (c .before .before .before .before .before .before .before .before .before .before .if1 .left), c .before .before .before .before .before .before .before .before .before .interrupted .ensures, sym (c .before .before .before .before .before .before .before .before .before .interrupted .ensures) ∙ (c .before .before .before .before .before .before .before .before .if2 .left), c .before .before .before .before .before .before .before .is-refused-busy .ensures, sym (c .before .before .before .before .before .before .before .is-refused-busy .ensures) ∙ (c .before .before .before .before .before .before .if3 .left), c .before .before .before .before .before .accepted .ensures, c .before .before .before .before .is-valid .ensures, sym (c .before .before .before .before .is-valid .ensures) ∙ (c .before .before .before .if4 .taken), c .before .before .is-single .ensures, c .before .carried-out .ensures, c .done2 .ensures)
 
--- src/lib.rt:66:22
 interrupt-requires : tie.Need-interrupt-requires
 interrupt-requires c κs = search needs
 
--- src/lib.rt:66:5
 done-requires-3 : tie.Need-done-requires-3
 done-requires-3 c κs = search needs
 
--- src/lib.rt:49:1
 returns-5 : tie.Need-returns-5
 unfolding commanded pick
 returns-5 c = simp (sym (c .before .before .before .before .before .before .before .before .before .before .code-of .ensures), ne-eqb _ _ (c .before .before .before .before .before .before .before .before .before .if1 .left), c .before .before .before .before .before .before .before .before .interrupted .ensures, sym (c .before .before .before .before .before .before .before .before .interrupted .ensures) ∙ (c .before .before .before .before .before .before .before .if2 .left), c .before .before .before .before .before .before .is-refused-busy .ensures, sym (c .before .before .before .before .before .before .is-refused-busy .ensures) ∙ (c .before .before .before .before .before .if3 .left), c .before .before .before .before .accepted .ensures, c .before .before .before .is-valid .ensures, sym (c .before .before .before .is-valid .ensures) ∙ (c .before .before .if4 .left), c .before .interrupt .ensures, c .done3 .ensures)

@@ -1,16 +1,13 @@
+-- `host::is_always_reachable` meets its contract: each way through the code is the definition's own way.
 use borrow.Author.Tests.{eq-eqb, ne-eqb}
 use Rattle.chip.specs.Choice.{either}
 use Rattle.host.proofs.is_always_reachable.Statement.{statement}
 use Rattle.host.proofs.is_always_reachable.Tie as tie
-use Rattle.host.proofs.is_always_reachable.Reads as reads
-use Rattle.host.proofs.is_always_reachable.Lts as lts
 
--- src/lib.rt:61:9
 returns : tie.Need-returns
 unfolding either
 returns c = simp (eq-eqb _ _ (c .if1 .taken))
 
--- src/lib.rt:57:1
 returns-2 : tie.Need-returns-2
 unfolding either
 returns-2 c = simp (ne-eqb _ _ (c .if1 .left))

@@ -1,32 +1,24 @@
+-- `host::is_shut_by_busy` meets its contract: each way through the code is the definition's own way.
 use mathlib.Core.Path.{sym, _∙_}
 use Rattle.chip.specs.Choice.{both, either}
 use borrow.Author.Needs.{needs}
 use Rattle.host.proofs.is_shut_by_busy.Statement.{statement}
 use Rattle.host.proofs.is_shut_by_busy.Tie as tie
-use Rattle.host.proofs.is_shut_by_busy.Reads as reads
-use Rattle.host.proofs.is_shut_by_busy.Lts as lts
-use Rattle.endings.proofs.interrupts.busy.Reads as busy-reads
-use Rattle.host.proofs.is_always_reachable.Reads as is-always-reachable-reads
 
--- src/lib.rt:69:8
 busy-requires : tie.Need-busy-requires
 busy-requires c κs = search needs
 
--- src/lib.rt:70:12
 is-always-reachable-requires : tie.Need-is-always-reachable-requires
 is-always-reachable-requires c κs = search needs
 
--- src/lib.rt:71:13
 returns : tie.Need-returns
 unfolding both either
 returns c = simp (sym (c .before .before .before .busy .ensures) ∙ (c .before .before .if1 .taken), sym (c .before .is-always-reachable .ensures) ∙ (c .if2 .taken))
 
--- src/lib.rt:73:9
 returns-2 : tie.Need-returns-2
 unfolding both either
 returns-2 c = simp (sym (c .before .before .before .busy .ensures) ∙ (c .before .before .if1 .taken), sym (c .before .is-always-reachable .ensures) ∙ (c .if2 .left))
 
--- src/lib.rt:66:1
 returns-3 : tie.Need-returns-3
 unfolding both either
 returns-3 c = simp (sym (c .before .busy .ensures) ∙ (c .if1 .left))

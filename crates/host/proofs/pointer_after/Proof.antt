@@ -1,33 +1,26 @@
+-- `host::pointer_after` meets its contract: each way through the code is the definition's own way.
 use borrow.Author.Tests.{eq-eqb, ne-eqb}
 use Rattle.chip.specs.Registers.{pointerAfter}
 use Rattle.chip.specs.Choice.{pick, either}
 use borrow.Author.Needs.{needs}
 use Rattle.host.proofs.pointer_after.Statement.{statement}
 use Rattle.host.proofs.pointer_after.Tie as tie
-use Rattle.host.proofs.pointer_after.Reads as reads
-use Rattle.host.proofs.pointer_after.Lts as lts
-use Rattle.std.proofs.num.wrapping_add_u8.Reads as wrapping-add-u8-reads
 
--- src/lib.rt:45:9
 returns : tie.Need-returns
 unfolding pointerAfter pick either
 returns c = simp (eq-eqb _ _ (c .if1 .taken))
 
--- src/lib.rt:48:9
 returns-2 : tie.Need-returns-2
 unfolding pointerAfter pick either
 returns-2 c = simp (ne-eqb _ _ (c .before .if1 .left), eq-eqb _ _ (c .if2 .taken))
 
--- src/lib.rt:51:9
 returns-3 : tie.Need-returns-3
 unfolding pointerAfter pick either
 returns-3 c = simp (ne-eqb _ _ (c .before .before .if1 .left), ne-eqb _ _ (c .before .if2 .left), eq-eqb _ _ (c .if3 .taken))
 
--- src/lib.rt:53:5
 wrapping-add-u8-requires : tie.Need-wrapping-add-u8-requires
 wrapping-add-u8-requires c κs = search needs
 
--- src/lib.rt:41:1
 returns-4 : tie.Need-returns-4
 unfolding pointerAfter pick either
 returns-4 c = simp (ne-eqb _ _ (c .before .before .before .if1 .left), ne-eqb _ _ (c .before .before .if2 .left), ne-eqb _ _ (c .before .if3 .left), c .wrapping-add-u8 .ensures)

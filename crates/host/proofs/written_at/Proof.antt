@@ -1,43 +1,31 @@
+-- `host::written_at` meets its contract: each way through the code is the definition's own way.
 use borrow.Author.Tests.{eq-eqb, ne-eqb}
 use Rattle.chip.specs.Registers.{writtenAt}
 use Rattle.chip.specs.Choice.{pick}
 use borrow.Author.Needs.{needs}
 use Rattle.host.proofs.written_at.Statement.{statement}
 use Rattle.host.proofs.written_at.Tie as tie
-use Rattle.host.proofs.written_at.Reads as reads
-use Rattle.host.proofs.written_at.Lts as lts
-use Rattle.commands.proofs.commanded.Reads as commanded-reads
-use Rattle.host.proofs.data_register.data_written.Reads as data-written-reads
-use Rattle.host.proofs.register.stored.Reads as stored-reads
-use Rattle.state.proofs.answers.done.Reads as done-reads
 
--- src/lib.rt:120:9
 commanded-requires : tie.Need-commanded-requires
 commanded-requires c κs = search needs
 
--- src/lib.rt:120:9
 returns : tie.Need-returns
 unfolding writtenAt pick
 returns c = simp (eq-eqb _ _ (c .before .if1 .taken), c .commanded .ensures)
 
--- src/lib.rt:123:9
 data-written-requires : tie.Need-data-written-requires
 data-written-requires c κs = search needs
 
--- src/lib.rt:123:9
 returns-2 : tie.Need-returns-2
 unfolding writtenAt pick
 returns-2 c = simp (ne-eqb _ _ (c .before .before .if1 .left), eq-eqb _ _ (c .before .if2 .taken), c .data-written .ensures)
 
--- src/lib.rt:125:22
 stored-requires : tie.Need-stored-requires
 stored-requires c κs = search needs
 
--- src/lib.rt:125:5
 done-requires : tie.Need-done-requires
 done-requires c κs = search needs
 
--- src/lib.rt:116:1
 returns-3 : tie.Need-returns-3
 unfolding writtenAt pick
 returns-3 c = simp (ne-eqb _ _ (c .before .before .before .if1 .left), ne-eqb _ _ (c .before .before .if2 .left), c .before .stored .ensures, c .done .ensures)

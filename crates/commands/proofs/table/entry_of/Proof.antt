@@ -1,3 +1,4 @@
+-- `commands::table::entry_of` meets its contract: each way through the code is the definition's own way.
 use mathlib.Core.Path.{sym}
 use native.Mathlib.Omega.{arith}
 use lib.ListN.{List·getD-eq-default}
@@ -6,23 +7,17 @@ use Rattle.chip.specs.Commands.{entryOf, table, leftOut}
 use borrow.Author.Needs.{needs}
 use Rattle.commands.proofs.table.entry_of.Statement.{statement}
 use Rattle.commands.proofs.table.entry_of.Tie as tie
-use Rattle.commands.proofs.table.entry_of.Reads as reads
-use Rattle.commands.proofs.table.entry_of.Lts as lts
 
--- src/table.rt:153:16
 mul-result : tie.Need-mul-result
 mul-result c = search needs
 
--- src/table.rt:153:16
 array-copy-out-result : tie.Need-array-copy-out-result
 array-copy-out-result c = search needs
 
--- src/table.rt:153:9
 returns : tie.Need-returns
 unfolding entryOf table
 returns c = any-default table (c .before .before .args .c) _ leftOut (omega arith)
 
--- src/table.rt:148:1
 returns-2 : tie.Need-returns-2
 unfolding entryOf table
 returns-2 c = sym (List·getD-eq-default table leftOut {n = c .before .args .c} (omega arith))

@@ -1,3 +1,4 @@
+-- `endings::fifo::pop` meets its contract: each way through the code is the definition's own way.
 use mathlib.Core.Path.{_≡_}
 use lib.ListN.{length}
 use Rattle.endings.proofs.Places.{rest-places}
@@ -7,63 +8,47 @@ use Rattle.chip.specs.Choice.{pick}
 use borrow.Author.Needs.{needs}
 use Rattle.endings.proofs.fifo.pop.Statement.{statement}
 use Rattle.endings.proofs.fifo.pop.Tie as tie
-use Rattle.endings.proofs.fifo.pop.Reads as reads
-use Rattle.endings.proofs.fifo.pop.Lts as lts
 
--- src/fifo.rt:29:9
 returns : tie.Need-returns
 unfolding pop pick isEmpty
 returns c = simp (eq-eqb _ _ (c .if1 .taken))
 
--- src/fifo.rt:32:18
 array-read-t8 : tie.Need-array-read-t8
 array-read-t8 c = search needs
 
--- src/fifo.rt:32:24
 array-read-t11 : tie.Need-array-read-t11
 array-read-t11 c = search needs
 
--- src/fifo.rt:32:30
 array-read-t14 : tie.Need-array-read-t14
 array-read-t14 c = search needs
 
--- src/fifo.rt:32:36
 array-read-t17 : tie.Need-array-read-t17
 array-read-t17 c = search needs
 
--- src/fifo.rt:32:42
 array-read-t20 : tie.Need-array-read-t20
 array-read-t20 c = search needs
 
--- src/fifo.rt:32:48
 array-read-t23 : tie.Need-array-read-t23
 array-read-t23 c = search needs
 
--- src/fifo.rt:32:54
 array-read-t26 : tie.Need-array-read-t26
 array-read-t26 c = search needs
 
--- src/fifo.rt:32:60
 array-read-t29 : tie.Need-array-read-t29
 array-read-t29 c = search needs
 
--- src/fifo.rt:32:66
 array-read-t32 : tie.Need-array-read-t32
 array-read-t32 c = search needs
 
--- src/fifo.rt:32:72
 array-read-t35 : tie.Need-array-read-t35
 array-read-t35 c = search needs
 
--- src/fifo.rt:32:79
 array-read-t38 : tie.Need-array-read-t38
 array-read-t38 c = search needs
 
--- src/fifo.rt:33:25
 sub-t8 : tie.Need-sub-t8
 sub-t8 c = search needs
 
--- src/fifo.rt:24:1
 bytes-long : (c : tie.Start) → length (c .args .q .bytes) ≡ 12
 bytes-long c = search needs
 

@@ -1,3 +1,4 @@
+-- `host::data_register::data_read_by` meets its contract: each way through the code is the definition's own way.
 use Rattle.chip.specs.Choice.{pick, both}
 use Rattle.chip.specs.TransferInfo.{dbr}
 use Rattle.chip.specs.Fifo.{isEmpty, waits, hasRoom, front, pop}
@@ -6,46 +7,33 @@ use Rattle.chip.specs.Interrupts.{settled, settledBy, raise, outgoingDropped}
 use borrow.Author.Needs.{needs}
 use Rattle.host.proofs.data_register.data_read_by.Statement.{statement}
 use Rattle.host.proofs.data_register.data_read_by.Tie as tie
-use Rattle.host.proofs.data_register.data_read_by.Reads as reads
-use Rattle.host.proofs.data_register.data_read_by.Lts as lts
-use Rattle.host.proofs.data_register.read_incoming.Reads as read-incoming-reads
-use Rattle.state.proofs.answers.no_data_now.Reads as no-data-now-reads
 
--- src/data_register.rt:30:31
 enum-told : tie.Need-enum-told
 enum-told c = search needs
 
--- src/data_register.rt:30:31
 no-data-now-requires : tie.Need-no-data-now-requires
 no-data-now-requires c κs = search needs
 
--- src/data_register.rt:31:26
 enum-told-2 : tie.Need-enum-told-2
 enum-told-2 c = search needs
 
--- src/data_register.rt:31:26
 read-incoming-requires : tie.Need-read-incoming-requires
 read-incoming-requires c κs = search needs
 
--- src/data_register.rt:32:27
 enum-told-3 : tie.Need-enum-told-3
 enum-told-3 c = search needs
 
--- src/data_register.rt:32:27
 no-data-now-requires-2 : tie.Need-no-data-now-requires-2
 no-data-now-requires-2 c κs = search needs
 
--- src/data_register.rt:26:1
 returns : tie.Need-returns
 unfolding pick dbr isEmpty both waits left hasRoom front settled settledBy raise outgoingDropped pop
 returns c = simp (c .before .enum-told .given .1, c .no-data-now .ensures)
 
--- src/data_register.rt:26:1
 returns-2 : tie.Need-returns-2
 unfolding pick dbr isEmpty both waits left hasRoom front settled settledBy raise outgoingDropped pop
 returns-2 c = simp (c .before .enum-told2 .given .1, c .read-incoming .ensures)
 
--- src/data_register.rt:26:1
 returns-3 : tie.Need-returns-3
 unfolding pick dbr isEmpty both waits left hasRoom front settled settledBy raise outgoingDropped pop
 returns-3 c = simp (c .before .enum-told3 .given .1, c .no-data-now2 .ensures)

@@ -1,3 +1,4 @@
+-- `host::data_register::data_written_by` meets its contract: each way through the code is the definition's own way.
 use Rattle.chip.specs.Choice.{pick, both}
 use Rattle.chip.specs.TransferInfo.{dbr}
 use Rattle.chip.specs.Fifo.{isEmpty, waits, hasRoom, push}
@@ -5,46 +6,33 @@ use Rattle.chip.specs.Count.{left}
 use borrow.Author.Needs.{needs}
 use Rattle.host.proofs.data_register.data_written_by.Statement.{statement}
 use Rattle.host.proofs.data_register.data_written_by.Tie as tie
-use Rattle.host.proofs.data_register.data_written_by.Reads as reads
-use Rattle.host.proofs.data_register.data_written_by.Lts as lts
-use Rattle.host.proofs.data_register.write_outgoing.Reads as write-outgoing-reads
-use Rattle.state.proofs.answers.no_data_now.Reads as no-data-now-reads
 
--- src/data_register.rt:56:31
 enum-told : tie.Need-enum-told
 enum-told c = search needs
 
--- src/data_register.rt:56:31
 no-data-now-requires : tie.Need-no-data-now-requires
 no-data-now-requires c κs = search needs
 
--- src/data_register.rt:57:26
 enum-told-2 : tie.Need-enum-told-2
 enum-told-2 c = search needs
 
--- src/data_register.rt:57:26
 no-data-now-requires-2 : tie.Need-no-data-now-requires-2
 no-data-now-requires-2 c κs = search needs
 
--- src/data_register.rt:58:27
 enum-told-3 : tie.Need-enum-told-3
 enum-told-3 c = search needs
 
--- src/data_register.rt:58:27
 write-outgoing-requires : tie.Need-write-outgoing-requires
 write-outgoing-requires c κs = search needs
 
--- src/data_register.rt:52:1
 returns : tie.Need-returns
 unfolding pick dbr isEmpty both waits left hasRoom push
 returns c = simp (c .before .enum-told .given .1, c .no-data-now .ensures)
 
--- src/data_register.rt:52:1
 returns-2 : tie.Need-returns-2
 unfolding pick dbr isEmpty both waits left hasRoom push
 returns-2 c = simp (c .before .enum-told2 .given .1, c .no-data-now2 .ensures)
 
--- src/data_register.rt:52:1
 returns-3 : tie.Need-returns-3
 unfolding pick dbr isEmpty both waits left hasRoom push
 returns-3 c = simp (c .before .enum-told3 .given .1, c .write-outgoing .ensures)

@@ -1,28 +1,22 @@
+-- `host::register::middle_written` meets its contract: each way through the code is the definition's own way.
 use mathlib.Core.Path.{refl}
 use Rattle.chip.specs.Registers.{middleWritten}
 use borrow.Author.Needs.{needs}
 use Rattle.host.proofs.register.middle_written.Statement.{statement}
 use Rattle.host.proofs.register.middle_written.Tie as tie
-use Rattle.host.proofs.register.middle_written.Reads as reads
-use Rattle.host.proofs.register.middle_written.Lts as lts
 
--- src/register.rt:66:5
 mul-result : tie.Need-mul-result
 mul-result c = search needs
 
--- src/register.rt:66:25
 mul-result-2 : tie.Need-mul-result-2
 mul-result-2 c = search needs
 
--- src/register.rt:66:5
 add-result : tie.Need-add-result
 add-result c = search needs
 
--- src/register.rt:66:5
 add-result-2 : tie.Need-add-result-2
 add-result-2 c = search needs
 
--- src/register.rt:63:1
 returns : tie.Need-returns
 unfolding middleWritten
 returns c = refl

@@ -11,8 +11,6 @@ use Rattle.chip.specs.Image.{areZero}
 use Rattle.image.proofs.Zeros.{passed, joined-in}
 use Rattle.image.proofs.runs.are_zero.Statement.{statement}
 use Rattle.image.proofs.runs.are_zero.Tie as tie
-use Rattle.image.proofs.runs.are_zero.Reads as reads
-use Rattle.image.proofs.runs.are_zero.Lts as lts
 
 abbrev Inv-loop : tie.InvT-loop
 Inv-loop s from x₀ i₀ x i = (i ≤ length s) × (eqb x 0 ≡ areZero (drop from (take i s)))
