@@ -58,17 +58,28 @@ static inline uint32_t readable(const struct plain *p)
     return p->direction == PLAIN_IN ? p->waiting : 0;
 }
 
+/* The FIFO is a ring. */
+static inline uint32_t next_place(uint32_t at)
+{
+    return at + 1 < PLAIN_FIFO ? at + 1 : 0;
+}
+
+static inline uint32_t end_place(const struct plain *p)
+{
+    uint32_t at = (uint32_t)p->first + p->waiting;
+    return at < PLAIN_FIFO ? at : at - PLAIN_FIFO;
+}
+
 static inline void put(struct plain *p, uint8_t byte)
 {
-    unsigned at = p->first + p->waiting;
-    p->fifo[at < PLAIN_FIFO ? at : at - PLAIN_FIFO] = byte;
+    p->fifo[end_place(p)] = byte;
     p->waiting++;
 }
 
 static inline uint8_t take(struct plain *p)
 {
     uint8_t byte = p->fifo[p->first];
-    p->first = p->first + 1 < PLAIN_FIFO ? p->first + 1 : 0;
+    p->first = (uint8_t)next_place(p->first);
     p->waiting--;
     return byte;
 }
@@ -397,8 +408,9 @@ uint32_t plain_pointer(struct plain *p, uint32_t mark, uint32_t byte)
 /* "bit 7 INT, 6 LCI, 5 BSY (a Level II command runs), 4 CIP (always 0, house), 1 PE, 0 DBR; the others are 0." */
 uint32_t plain_auxiliary(const struct plain *p)
 {
-    uint32_t status = (uint32_t)(p->pending == PLAIN_INT) << 7 | (uint32_t)p->lci << 6 | (uint32_t)busy(p) << 5 | (uint32_t)p->pe << 1;
-    return done(status | (room(p) + readable(p) != 0));
+    bool dbr = room(p) + readable(p) != 0;
+    unsigned status = (p->pending == PLAIN_INT) << 7 | p->lci << 6 | busy(p) << 5 | p->pe << 1 | dbr;
+    return done(status);
 }
 
 /* "After each register access it steps by one, FFh going round to 00, except at 18h, 19h and 1Fh, where it stays." */
@@ -414,16 +426,26 @@ uint32_t plain_register(struct plain *p, uint32_t mark, uint32_t byte)
 
 static uint32_t read_block(struct plain *p, uint8_t *data, size_t length)
 {
-    uint32_t moved = length < readable(p) ? (uint32_t)length : readable(p);
-    for (uint32_t i = 0; i < moved; i++) data[i] = take(p);
-    if (moved != 0 && p->waiting == 0) read_out(p);
+    uint32_t moved = length < readable(p) ? (uint32_t)length : readable(p), at = p->first;
+    if (moved == 0) return done(0);
+    for (uint32_t i = 0; i < moved; i++) {
+        data[i] = p->fifo[at];
+        at = next_place(at);
+    }
+    p->first = (uint8_t)at;
+    p->waiting = (uint8_t)(p->waiting - moved);
+    if (p->waiting == 0) read_out(p);
     return done(moved);
 }
 
 static uint32_t write_block(struct plain *p, const uint8_t *data, size_t length)
 {
-    uint32_t moved = length < room(p) ? (uint32_t)length : room(p);
-    for (uint32_t i = 0; i < moved; i++) put(p, data[i]);
+    uint32_t moved = length < room(p) ? (uint32_t)length : room(p), at = end_place(p);
+    for (uint32_t i = 0; i < moved; i++) {
+        p->fifo[at] = data[i];
+        at = next_place(at);
+    }
+    p->waiting = (uint8_t)(p->waiting + moved);
     return done(moved);
 }
 

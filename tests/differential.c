@@ -38,8 +38,8 @@ enum { NOWHERE = 0xffff };
 
 struct difference {
     const char *what;
-    unsigned at;     /* a register's address or a byte's place, or NOWHERE */
-    bool is_result;  /* two results of a call, or else two bytes */
+    unsigned at;    /* a register's address or a byte's place, or NOWHERE */
+    bool is_result; /* two results of a call, or else two bytes */
     uint32_t library, plain;
 };
 
@@ -94,7 +94,8 @@ static bool leaves(const uint8_t *before, const uint8_t *after, uint32_t answer,
     if (answer == AM33C93A_DONE || answer == AM33C93A_REPORTED) return true;
     for (unsigned i = 0; i < AM33C93A_IMAGE_LENGTH; i++) {
         bool free_to = (answer == AM33C93A_BLIND && i == AT_POINTER) || (answer == AM33C93A_COMMAND_IGNORED && i == AT_LCI);
-        if (before[i] != after[i] && !free_to) return differs(d, "the image must stay (plain: before), byte", i, false, after[i], before[i]);
+        if (before[i] == after[i] || free_to) continue;
+        return differs(d, "the image must stay (plain: before), byte", i, false, after[i], before[i]);
     }
     return true;
 }
@@ -648,16 +649,17 @@ static void print_call(const struct call *c)
 {
     char text[80];
     unsigned a = c->a, b = c->b;
+    const char *name = kind_names[c->kind], *mark = a == READ ? "(read)" : a == WRITE ? "(write)" : "(bad)";
     switch (c->kind) {
     case POINTER:
-    case REGISTER: snprintf(text, sizeof text, "%s, mark %X, byte %02Xh", kind_names[c->kind], a, b); break;
-    case BLOCK: snprintf(text, sizeof text, "block, mark %X, %u bytes from %02Xh by 7", a, c->length, c->fill); break;
-    case TIME: snprintf(text, sizeof text, "time, %02Xh units", a); break;
-    case RESELECTION: snprintf(text, sizeof text, "reselection, lines %02Xh", a); break;
-    case REQUEST: snprintf(text, sizeof text, "request, phase %X, byte %02Xh, parity %X", a, b, (unsigned)c->c); break;
-    default: snprintf(text, sizeof text, "%s", kind_names[c->kind]);
+    case REGISTER: snprintf(text, sizeof text, "%s mark %X %s byte %02Xh", name, a, mark, b); break;
+    case BLOCK: snprintf(text, sizeof text, "block mark %X %s %u bytes, %02Xh by 7", a, mark, c->length, c->fill); break;
+    case TIME: snprintf(text, sizeof text, "time units %02Xh", a); break;
+    case RESELECTION: snprintf(text, sizeof text, "reselection lines %02Xh", a); break;
+    case REQUEST: snprintf(text, sizeof text, "request phase %X byte %02Xh parity %X", a, b, (unsigned)c->c); break;
+    default: snprintf(text, sizeof text, "%s", name);
     }
-    printf("  %-44s", text);
+    printf("  %-42s", text);
 }
 
 static void print_result(const char *who, uint32_t r)

@@ -80,3 +80,14 @@ refused-image c l r e h = of-refused c l (no-image c l (sym (ok-is l r e) ∙ h)
 
 pub refused-operand : (c : Call) (l : List ℕ) → isGood c ≡ false → (3 ≡ entered c l .result) × (l ≡ entered c l .image)
 refused-operand c l g = of-refused c l (no-operand c l g)
+
+pub and-true : {a b : Bool} → a ≡ true → b ≡ true → both a b ≡ true
+unfolding both
+and-true {a} {b} p q = rw (p, q)
+
+pub and-false : {a b : Bool} → a ≡ false → both a b ≡ false
+unfolding both
+and-false {a} {b} p = rw p
+
+pub and-then-false : {a b : Bool} → b ≡ false → both a b ≡ false
+and-then-false {a} {b} q = rw q (both-false a)

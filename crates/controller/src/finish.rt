@@ -3,9 +3,9 @@ ghost use mathlib.Core.Path.{_≡_};
 ghost use Rattle.chip.specs.Choice.{pick};
 ghost use Rattle.chip.specs.Entries.{result};
 ghost use Rattle.chip.specs.Image.{imageOf};
-ghost use Rattle.chip.specs.State as States;
 ghost use lib.Dec.{eqb};
 ghost use lib.ListN.{length};
+use blocks::Moved;
 use chip::{Answer, Reply};
 use state::answers;
 
@@ -23,4 +23,14 @@ pub fn finish(r: Reply, image: &mut [u8]) -> u32
     let a = r.answer;
     image::write(s, image);
     result(a)
+}
+
+// The same for a block move: Done, with the number moved as its value.
+pub fn moved(m: Moved, image: &mut [u8]) -> u32
+    ensures { λ n. ⌜ (n ≡ result (Answer.Done (m .number))) × (now (image .exit) ≡ pick (eqb (length (now (image .entry))) 53) (imageOf (m .state)) (now (image .entry))) ⌝ }
+{
+    let s = m.state;
+    let number = m.number;
+    image::write(s, image);
+    result(Answer::Done(number))
 }

@@ -87,6 +87,26 @@ pub extern "C" fn am33c93a_register(image: &mut [u8], mark: u32, byte: u32) -> u
 }
 
 #[no_mangle]
+pub extern "C" fn am33c93a_block(image: &mut [u8], mark: u32, bytes: &mut [u8]) -> u32
+    ensures { λ r. ⌜ (r ≡ entered (Calls.block mark (now (bytes .entry))) (now (image .entry)) .result)
+      × (now (image .exit) ≡ entered (Calls.block mark (now (bytes .entry))) (now (image .entry)) .image)
+      × (now (bytes .exit) ≡ entered (Calls.block mark (now (bytes .entry))) (now (image .entry)) .lent) ⌝ }
+{
+    if mark < 2 {
+        let reading = image::read(image);
+        if reading.ok {
+            let s = reading.state;
+            if mark == 1 {
+                return finish::moved(blocks::block_written(s, bytes), image);
+            }
+            return finish::moved(blocks::block_read(s, bytes), image);
+        }
+        return BAD_NUMBER;
+    }
+    BAD_NUMBER
+}
+
+#[no_mangle]
 pub extern "C" fn am33c93a_time(image: &mut [u8], units: u32) -> u32
     ensures { λ r. ⌜ (r ≡ entered (Calls.time units) (now (image .entry)) .result)
       × (now (image .exit) ≡ entered (Calls.time units) (now (image .entry)) .image) ⌝ }

@@ -1,9 +1,15 @@
 -- How a proof goes through a choice of chip's. Generic; every walk over the definitions cites it.
---   by-pick   what holds of both sides of a `pick` holds of it
---   by-case   the same, each side with the test's value in hand
+--   by-pick        what holds of both sides of a `pick` holds of it
+--   by-case        the same, each side with the test's value in hand
+--   pick-ap        a function of a `pick` is a `pick` of its values
+--   both-first     where both tests hold, the first does
+--   both-second    and so does the second
+--   either-first   where neither test holds, the first does not
+--   either-second  where one of two holds and the first does not, the second does
+--   either-last    one of two holds where the second does
 use mathlib.Core.Path.{_≡_, refl}
 use mathlib.Core.Bool.{Bool, true, false}
-use Rattle.chip.specs.Choice.{pick}
+use Rattle.chip.specs.Choice.{pick, both, either}
 
 pub by-pick : {A : Type 0} (P : A → Type 0) (t : Bool) {a b : A} → P a → P b → P (pick t a b)
 unfolding pick
@@ -14,3 +20,33 @@ pub by-case : {A : Type 0} (P : A → Type 0) (t : Bool) {a b : A} → (t ≡ tr
 unfolding pick
 by-case P true x y = x refl
 by-case P false x y = y refl
+
+pub pick-ap : {A B : Type 0} (f : A → B) (t : Bool) (a b : A) → f (pick t a b) ≡ pick t (f a) (f b)
+unfolding pick
+pick-ap f true a b = refl
+pick-ap f false a b = refl
+
+pub both-first : (t u : Bool) → both t u ≡ true → t ≡ true
+unfolding both
+both-first true u e = refl
+both-first false u e = e
+
+pub both-second : (t u : Bool) → both t u ≡ true → u ≡ true
+unfolding both
+both-second true u e = e
+both-second false true e = refl
+both-second false false e = e
+
+pub either-first : (t u : Bool) → either t u ≡ false → t ≡ false
+unfolding either
+either-first true u e = e
+either-first false u e = refl
+
+pub either-second : (t u : Bool) → either t u ≡ true → t ≡ false → u ≡ true
+unfolding either
+either-second t u h e = rw e at h
+
+pub either-last : (t : Bool) → either t true ≡ true
+unfolding either
+either-last true = refl
+either-last false = refl

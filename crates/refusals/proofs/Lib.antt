@@ -1,3 +1,12 @@
 pub mod Cases
+pub mod Counts
 pub mod Fitting
 pub mod Requests
+pub mod Events
+pub mod DataRegister
+pub mod Accesses
+pub mod GoingOn
+pub mod Blocks
+pub mod Laws
+pub mod Promises
+pub mod Wrong

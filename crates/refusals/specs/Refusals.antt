@@ -1,6 +1,8 @@
 -- What each answer leaves. Paper: the table of the section "The answers", of every call from every state.
 --   RefusalsKeep   a step's law: each outcome is as the table's row for its answer says
---   Table          the table, a line a row: number, value, and what is left
+--   Table          the table, a line a row
+--   Row            a row: the answer's number and value, and what it leaves
+--   Became         the state after a call is a given one, and the lent slice is as it was
 --   Unchanged      "nothing changed": the state and the lent slice are as they were
 --   PointerMoves   "only the pointer moves"
 --   LciSet         "only LCI set"
@@ -10,7 +12,6 @@
 --   Cause          why a Request is Reported: INT, an ending, or the way fixed as out
 use mathlib.Core.Path.{_≡_}
 use mathlib.Core.Bool.{true}
-use mathlib.Core.List.{List}
 use Prim.Native.Nat.{ℕ}
 use Rattle.chip.specs.State.{empty, setPointer, setLci}
 use Rattle.chip.specs.Answers.{number, value}
@@ -24,7 +25,6 @@ use Rattle.chip.specs.declared.Direction.the-variants.{Unfixed, Out}
 use Rattle.chip.specs.declared.Answer.{Answer}
 use Rattle.chip.specs.declared.Answer.the-variants.{Done, Held, OutOfPlace, BadNumber, Blind, CommandIgnored, ReselectionIgnored, NoDataNow, Reported}
 
--- the state s of the call c became t, and the lent slice is as it was
 pub record Became (c : Call) (t : State) (o : Outcome) : Type 0 where
   pub state : o .state ≡ t
   pub lent : o .lent ≡ lentBy c
@@ -57,7 +57,6 @@ pub record Noticed (s t : State) : Type 0 where
   pub fifo : Untaken (s .fifo) (t .fifo)
   pub cause : Cause (t .status .pending) (s .transfer .direction) (t .transfer .direction)
 
--- a row: the answer's number and value, and what it leaves
 abbrev pub Row : Answer → ℕ → ℕ → Type 0 → Type 0
 Row a n v leaves = (number a ≡ n) × (value a ≡ v) × leaves
 

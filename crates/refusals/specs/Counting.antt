@@ -1,0 +1,84 @@
+-- When the count falls. Paper: "A Request of the phase under transfer with bytes left takes one from, or puts one into, the FIFO and
+-- lowers the count"; "Data moves as above"; of the readings to shut out, "Lowering the count when the host writes the FIFO. It falls
+-- when a byte crosses."
+--   CountFallsOnlyOnTheBus   a step's law: what is left falls by one with a byte that crosses, and otherwise the count stands
+--   Counting                 what a call and its answer leave of the count; of a register access nothing is said here
+--   Asked                    the same of a Request
+--   Falls                    one byte less is left, or the count stands
+--   isCounted                a byte of that phase counts: each under Transfer Info, those of Data in a Select-And-Transfer
+--   isData                   "Data (0 or 1)"
+--   isRequest                the call is a Request
+use mathlib.Core.Path.{_≡_}
+use mathlib.Core.Bool.{Bool, true, false}
+use Prim.Native.Nat.{ℕ, suc}
+use lib.Dec.{eqb}
+use Rattle.chip.specs.Count.{left}
+use Rattle.chip.specs.Interrupts.{isRunning}
+use Rattle.chip.specs.Phases.{phaseOf}
+use Rattle.chip.specs.Calls.{Call, Outcome, pointer, auxiliary, register, block, time, answer, reselection, request, free}
+use Rattle.chip.specs.declared.State.{State}
+use Rattle.chip.specs.declared.Answer.{Answer}
+use Rattle.chip.specs.declared.Answer.the-variants.{Done, Held, OutOfPlace, BadNumber, Blind, CommandIgnored, ReselectionIgnored, NoDataNow, Reported}
+use Rattle.chip.specs.declared.Phase.{Phase}
+use Rattle.chip.specs.declared.Phase.the-variants.{DataOut, DataIn, CommandOut, StatusIn, UnspecifiedOut, UnspecifiedIn, MessageOut, MessageIn}
+use Rattle.chip.specs.declared.Running.{Running}
+use Rattle.chip.specs.declared.Running.the-variants.{Idle, SelectWithAtn, SelectWithoutAtn, TransferWithAtn, TransferWithoutAtn, TransferInfo}
+use Rattle.refusals.specs.Refusals.{SameCount}
+use Rattle.refusals.specs.Kinds.{kind}
+
+abbrev pub isData : Phase → Bool
+isData DataOut = true
+isData DataIn = true
+isData CommandOut = false
+isData StatusIn = false
+isData UnspecifiedOut = false
+isData UnspecifiedIn = false
+isData MessageOut = false
+isData MessageIn = false
+
+abbrev pub isCounted : Running → Phase → Bool
+isCounted Idle p = false
+isCounted SelectWithAtn p = false
+isCounted SelectWithoutAtn p = false
+isCounted TransferWithAtn p = isData p
+isCounted TransferWithoutAtn p = isData p
+isCounted TransferInfo p = true
+
+abbrev pub Falls : Bool → State → State → Type 0
+Falls true s t = left s ≡ suc (left t)
+Falls false s t = SameCount s t
+
+-- only Done takes a byte
+abbrev pub Asked : Answer → Bool → State → State → Type 0
+Asked (Done v) counted s t = Falls counted s t
+Asked Held counted s t = SameCount s t
+Asked OutOfPlace counted s t = SameCount s t
+Asked BadNumber counted s t = SameCount s t
+Asked Blind counted s t = SameCount s t
+Asked CommandIgnored counted s t = SameCount s t
+Asked ReselectionIgnored counted s t = SameCount s t
+Asked NoDataNow counted s t = SameCount s t
+Asked Reported counted s t = SameCount s t
+
+abbrev pub Counting : Call → Answer → State → State → Type 0
+Counting (pointer m b) a s t = SameCount s t
+Counting auxiliary a s t = SameCount s t
+Counting (register m b) a s t = Unit {0}
+Counting (block m l) a s t = SameCount s t
+Counting (time n) a s t = SameCount s t
+Counting answer a s t = SameCount s t
+Counting (reselection lines) a s t = SameCount s t
+Counting (request p b q) a s t = Asked a (isCounted (s .transfer .running) (phaseOf p)) s t
+Counting free a s t = SameCount s t
+
+abbrev pub isRequest : Call → Bool
+isRequest c = eqb (kind c) 7
+
+pub record CountFallsOnlyOnTheBus (f : Call → State → Outcome) : Type 0 where
+  -- every call but a register access, from every state
+  pub counting : (c : Call) (s : State) → Counting c (f c s .answer) s (f c s .state)
+  -- an access to the Data register, read or written, from every state
+  pub at-data : (m b : ℕ) (s : State) → s .status .pointer ≡ 0x19 → SameCount s (f (register m b) s .state)
+  -- every call but a Request, while a command goes on
+  pub going-on : (c : Call) (s : State) → isRequest c ≡ false → isRunning (s .transfer .running) ≡ true
+      → f c s .state .transfer .running ≡ s .transfer .running → SameCount s (f c s .state)

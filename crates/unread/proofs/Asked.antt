@@ -1,0 +1,398 @@
+-- The rows of the table that Requests and a Free make: the step computes what each says.
+--   Raised k t         t shows INT with the code k
+--   Ended k w t        an ending with k led to t: raised, or pending where w says that bytes are unread
+--   raised-by ended-by .. of a state that `raise` or `endingWith` made
+--   open-event         an event that INT does not hold back
+--   completes-row saves-row overruns-row surprises-row spoils-row last-row asks-row   Requests
+--   info-free-row cuts-transfer-row leaves-transfer-row idle-free-row                 Free
+use mathlib.Core.Path.{_≡_, refl, sym, ap, ap₂, _∙_}
+use mathlib.Core.Bool.{Bool, true, false, not}
+use Prim.Native.Nat.{ℕ, _+_}
+use lib.Dec.{eqb}
+use borrow.Author.Tests.{not-true, not-false}
+use Rattle.chip.specs.Choice.{pick, both, either}
+use Rattle.chip.specs.Phases.{phaseOf, phaseNumber, comesIn, samePhase, isNoted, isMessageIn, isMessageOut, isCommandOut}
+use Rattle.chip.specs.Lines.{hsp, idi}
+use Rattle.chip.specs.Fifo.{hasRoom}
+use Rattle.chip.specs.Count.{noneLeft, isLast, lowered}
+use Rattle.chip.specs.Interrupts.{interrupted, isInterrupt, isEnding, ends, endingWith, raise, unread, isIncoming, unlessInterrupt}
+use Rattle.chip.specs.TransferInfo as I
+use Rattle.chip.specs.SelectAndTransfer as X
+use Rattle.chip.specs.Events as E
+use Rattle.chip.specs.Events.{isTransfer}
+use Rattle.chip.specs.Calls.{Call, Outcome, request, free, isGood, isSet, plain, step, carried}
+use Rattle.chip.specs.declared.State.{State}
+use Rattle.chip.specs.declared.Reply.{Reply}
+use Rattle.chip.specs.declared.Connection.{Connection}
+use Rattle.chip.specs.declared.Connection.the-variants.{Disconnected, Selecting, Waiting, Connected}
+use Rattle.chip.specs.declared.Running.{Running}
+use Rattle.chip.specs.declared.Running.the-variants.{Idle, SelectWithAtn, SelectWithoutAtn, TransferWithAtn, TransferWithoutAtn, TransferInfo}
+use Rattle.chip.specs.declared.Stage.{Stage}
+use Rattle.chip.specs.declared.Stage.the-variants.{SendIdentify, SendCommand, Body, AfterData, Disconnecting, Reselected, AfterStatus, Elsewhere}
+use Rattle.chip.specs.declared.Direction.{Direction}
+use Rattle.chip.specs.declared.Direction.the-variants.{Unfixed, In, Out}
+use Rattle.chip.specs.declared.Phase.{Phase}
+use Rattle.chip.specs.declared.Phase.the-variants.{DataOut, DataIn, CommandOut, StatusIn, UnspecifiedOut, UnspecifiedIn, MessageOut, MessageIn}
+use Rattle.chip.specs.declared.Pending.the-variants.{Nothing, Interrupt, Ending}
+use Rattle.chip.specs.declared.Status.{Status}
+use Rattle.unread.specs.Because as B
+use Rattle.unread.specs.Because.{Quiet, Brings, Offered, LastMessage, isIdle, isOut, isSpent, stage, expects, expectsBody, expectsLate, wants, fits, halts, isBeforeStatus}
+use Rattle.unread.proofs.Choosing.{taken, passed-over, chosen, by-test, clash, both-first, both-second, not-first, second-fails, second-holds, only-second, neither-first, neither-second}
+use Rattle.unread.proofs.Bus.{remembered-status, info-wants, info-spent, by-stage, pushed}
+use Rattle.unread.proofs.Told.{good-step}
+
+pub record Raised (k : ℕ) (t : State) : Type 0 where
+  pub code : t .status .code ≡ k
+  pub int : t .status .pending ≡ Interrupt
+
+pub record Ended (k : ℕ) (w : Bool) (t : State) : Type 0 where
+  pub raised-now : w ≡ false → Raised k t
+  pub read-first : w ≡ true → t .status .pending ≡ Ending k
+
+pub raised-by : {k : ℕ} {t : State} (u : State) → t .status ≡ raise k u .status → Raised k t
+unfolding raise
+raised-by u e = record { code = ap (λ (x : Status). x .code) e; int = ap (λ (x : Status). x .pending) e }
+
+pub ended-by : {k : ℕ} {w : Bool} {t : State} (u : State) → t .status ≡ endingWith k u .status → unread u ≡ w → Ended k w t
+unfolding endingWith pick
+ended-by u e f =
+    record { raised-now = λ h. raised-by u (rw (f, h) at e); read-first = λ h. ap (λ (x : Status). x .pending) (rw (f, h) at e) }
+
+abbrev status : Reply → Status
+status r = r .state .status
+
+-- an event that nothing holds back
+pub open-event : (s : State) (r : Reply) → Quiet s → unlessInterrupt s r ≡ r
+unfolding unlessInterrupt
+open-event s r q = passed-over _ _ (ap isInterrupt q)
+
+message-goes-out : (p : Phase) → isMessageOut p ≡ true → comesIn p ≡ false
+message-goes-out DataOut e = refl
+message-goes-out DataIn e = clash e refl
+message-goes-out CommandOut e = refl
+message-goes-out StatusIn e = clash e refl
+message-goes-out UnspecifiedOut e = refl
+message-goes-out UnspecifiedIn e = clash e refl
+message-goes-out MessageOut e = refl
+message-goes-out MessageIn e = clash e refl
+
+command-goes-out : (p : Phase) → isCommandOut p ≡ true → comesIn p ≡ false
+command-goes-out DataOut e = refl
+command-goes-out DataIn e = clash e refl
+command-goes-out CommandOut e = refl
+command-goes-out StatusIn e = clash e refl
+command-goes-out UnspecifiedOut e = refl
+command-goes-out UnspecifiedIn e = clash e refl
+command-goes-out MessageOut e = refl
+command-goes-out MessageIn e = clash e refl
+
+informs : (r : Running) → isIdle r ≡ false → isTransfer r ≡ false → r ≡ TransferInfo
+informs Idle i t = clash refl i
+informs SelectWithAtn i t = clash refl i
+informs SelectWithoutAtn i t = clash refl i
+informs TransferWithAtn i t = clash refl t
+informs TransferWithoutAtn i t = clash refl t
+informs TransferInfo i t = refl
+
+module _ (n b m : ℕ) (s : State) where
+  pub reaches : {p : Phase} → Offered n b m p s
+    → step (request n b m) s .state .status ≡ E.servedBy (s .transfer .running) p b (isSet m) s .state .status
+  unfolding carried E.requested E.requestedConnected
+  reaches o =
+      ap (λ (x : Outcome). x .state .status) (good-step (request n b m) s (o .good)) ∙ remembered-status (phaseOf n) _
+      ∙ ap (λ (r : Reply). r .state .status)
+        (ap₂ (λ (x : Connection) (q : Phase). E.requestedBy x q b (isSet m) s) (o .connected) (o .phase)
+        ∙ passed-over _ _ (ap isEnding (o .quiet)) ∙ passed-over _ _ (o .released))
+
+  -- a Select-And-Transfer serves by its stage
+  serves : (p : Phase) → isTransfer (s .transfer .running) ≡ true
+    → E.servedBy (s .transfer .running) p b (isSet m) s ≡ X.requestAt (stage s) p b (isSet m) s
+  unfolding X.transferRequest stage
+  serves p e = by-running (s .transfer .running) e
+    where
+      by-running : (r : Running) → isTransfer r ≡ true
+        → E.servedBy r p b (isSet m) s ≡ X.requestAt (X.stageOf (E.setsAtn r) (s .registers .phase) (X.size s)) p b (isSet m) s
+      by-running Idle e = clash e refl
+      by-running SelectWithAtn e = clash e refl
+      by-running SelectWithoutAtn e = clash e refl
+      by-running TransferWithAtn e = refl
+      by-running TransferWithoutAtn e = refl
+      by-running TransferInfo e = clash e refl
+
+  message-surprises : either (eqb b 0x02) (eqb b 0x04) ≡ false → X.takeMessage b (isSet m) s ≡ X.unexpected MessageIn s
+  unfolding X.takeMessage
+  message-surprises e = passed-over _ _ (neither-first _ _ e) ∙ passed-over _ _ (neither-second (eqb b 0x02) _ e)
+
+  -- a direction that is open or the same: only where none is left
+  spent-surprises : (p : Phase) (r : Reply) → both (not (noneLeft s)) true ≡ false → X.unlessNoneLeft p s r ≡ X.unexpected p s
+  unfolding X.unlessNoneLeft
+  spent-surprises p r e = taken _ _ (not-false (noneLeft s) (not-first _ true e refl))
+
+  turned-surprises : (p : Phase) → X.unlessNoneLeft p s (X.unexpected p s) ≡ X.unexpected p s
+  unfolding X.unlessNoneLeft
+  turned-surprises p = chosen (λ (r : Reply). r ≡ X.unexpected p s) (noneLeft s) refl refl
+
+  out-surprises : (d : Direction) → both (not (noneLeft s)) (not (isIncoming d)) ≡ false
+    → X.unlessNoneLeft DataOut s (X.dataOut d s) ≡ X.unexpected DataOut s
+  unfolding X.dataOut
+  out-surprises Unfixed e = spent-surprises DataOut _ e
+  out-surprises In e = turned-surprises DataOut
+  out-surprises Out e = spent-surprises DataOut _ e
+
+  in-surprises : (d : Direction) → both (not (noneLeft s)) (not (isOut d)) ≡ false
+    → X.unlessNoneLeft DataIn s (X.dataIn d b (isSet m) s) ≡ X.unexpected DataIn s
+  unfolding X.dataIn
+  in-surprises Unfixed e = spent-surprises DataIn _ e
+  in-surprises In e = spent-surprises DataIn _ e
+  in-surprises Out e = turned-surprises DataIn
+
+  body-surprises : (p : Phase) → expectsBody p b s ≡ false → X.bodyRequest p b (isSet m) s ≡ X.unexpected p s
+  unfolding X.bodyRequest expectsBody
+  body-surprises DataOut e = out-surprises (s .transfer .direction) e
+  body-surprises DataIn e = in-surprises (s .transfer .direction) e
+  body-surprises CommandOut e = refl
+  body-surprises StatusIn e = clash refl e
+  body-surprises UnspecifiedOut e = refl
+  body-surprises UnspecifiedIn e = refl
+  body-surprises MessageOut e = refl
+  body-surprises MessageIn e = message-surprises e
+
+  late-surprises : (p : Phase) → expectsLate p b ≡ false → X.lateRequest p b (isSet m) s ≡ X.unexpected p s
+  unfolding X.lateRequest expectsLate
+  late-surprises DataOut e = refl
+  late-surprises DataIn e = refl
+  late-surprises CommandOut e = refl
+  late-surprises StatusIn e = clash refl e
+  late-surprises UnspecifiedOut e = refl
+  late-surprises UnspecifiedIn e = refl
+  late-surprises MessageOut e = refl
+  late-surprises MessageIn e = message-surprises e
+
+  -- what the stage does not expect is unexpected
+  stage-surprises : (g : Stage) (p : Phase) → expects g p b s ≡ false → X.requestAt g p b (isSet m) s ≡ X.unexpected p s
+  unfolding X.requestAt X.sendIdentify X.sendCommand X.takeIdentify X.takeComplete expects
+  stage-surprises SendIdentify p e = passed-over _ _ e
+  stage-surprises (SendCommand x) p e = passed-over _ _ e
+  stage-surprises Body p e = body-surprises p e
+  stage-surprises AfterData p e = late-surprises p e
+  stage-surprises Disconnecting p e = refl
+  stage-surprises Reselected p e = passed-over _ _ e
+  stage-surprises AfterStatus p e = passed-over _ _ e
+  stage-surprises Elsewhere p e = refl
+
+  -- a byte of bad parity that a stage would take in halts
+  module _ (h : halts m s ≡ true) where
+    halted : (r : Reply) → I.unlessHalted (isSet m) s r ≡ I.halted s
+    unfolding I.unlessHalted halts
+    halted r = taken _ _ h
+
+    message-halts : either (eqb b 0x02) (eqb b 0x04) ≡ true → X.takeMessage b (isSet m) s ≡ I.halted s
+    unfolding X.takeMessage X.takeSave X.takeDisconnect either
+    message-halts e =
+        by-test (eqb b 0x02) (λ x. taken _ _ x ∙ halted _) (λ x. passed-over _ _ x ∙ taken _ _ (rw x at e) ∙ halted _)
+
+    take-halts : hasRoom (s .fifo) ≡ true → X.takeData b (isSet m) s ≡ I.halted s
+    unfolding X.takeData
+    take-halts r = taken _ _ r ∙ halted _
+
+    in-halts : (d : Direction) → both (not (noneLeft s)) (not (isOut d)) ≡ true → hasRoom (s .fifo) ≡ true
+      → X.unlessNoneLeft DataIn s (X.dataIn d b (isSet m) s) ≡ I.halted s
+    unfolding X.unlessNoneLeft X.dataIn
+    in-halts Unfixed e r = passed-over _ _ (not-true _ (both-first _ _ e)) ∙ take-halts r
+    in-halts In e r = passed-over _ _ (not-true _ (both-first _ _ e)) ∙ take-halts r
+    in-halts Out e r = clash (both-second (not (noneLeft s)) _ e) refl
+
+    body-halts : (p : Phase) → expectsBody p b s ≡ true → comesIn p ≡ true → (samePhase p DataIn ≡ true → hasRoom (s .fifo) ≡ true)
+      → X.bodyRequest p b (isSet m) s ≡ I.halted s
+    unfolding X.bodyRequest X.takeStatus expectsBody
+    body-halts DataOut e c f = clash c refl
+    body-halts DataIn e c f = in-halts (s .transfer .direction) e (f refl)
+    body-halts CommandOut e c f = clash c refl
+    body-halts StatusIn e c f = halted _
+    body-halts UnspecifiedOut e c f = clash c refl
+    body-halts UnspecifiedIn e c f = clash e refl
+    body-halts MessageOut e c f = clash c refl
+    body-halts MessageIn e c f = message-halts e
+
+    late-halts : (p : Phase) → expectsLate p b ≡ true → X.lateRequest p b (isSet m) s ≡ I.halted s
+    unfolding X.lateRequest X.takeStatus expectsLate
+    late-halts DataOut e = clash e refl
+    late-halts DataIn e = clash e refl
+    late-halts CommandOut e = clash e refl
+    late-halts StatusIn e = halted _
+    late-halts UnspecifiedOut e = clash e refl
+    late-halts UnspecifiedIn e = clash e refl
+    late-halts MessageOut e = clash e refl
+    late-halts MessageIn e = message-halts e
+
+    stage-halts : (g : Stage) (p : Phase) → expects g p b s ≡ true → comesIn p ≡ true → (samePhase p DataIn ≡ true → hasRoom (s .fifo) ≡ true)
+      → X.requestAt g p b (isSet m) s ≡ I.halted s
+    unfolding X.requestAt X.takeIdentify X.takeComplete X.completed expects
+    stage-halts SendIdentify p e c f = clash c (message-goes-out p e)
+    stage-halts (SendCommand x) p e c f = clash c (command-goes-out p e)
+    stage-halts Body p e c f = body-halts p e c f
+    stage-halts AfterData p e c f = late-halts p e
+    stage-halts Disconnecting p e c f = clash e refl
+    stage-halts Reselected p e c f = taken _ _ e ∙ halted _
+    stage-halts AfterStatus p e c f = taken _ _ e ∙ halted _
+    stage-halts Elsewhere p e c f = clash e refl
+
+  -- the rows of Requests
+
+  unless-sound : (r : Reply) → halts m s ≡ false → I.unlessHalted (isSet m) s r ≡ r
+  unfolding I.unlessHalted halts
+  unless-sound r h = passed-over _ _ h
+
+  transfer-reaches : {p : Phase} {r : Reply} → Offered n b m p s → isTransfer (s .transfer .running) ≡ true
+    → X.requestAt (stage s) p b (isSet m) s ≡ r → step (request n b m) s .state .status ≡ r .state .status
+  transfer-reaches {p} o t e = reaches o ∙ ap status (serves p t ∙ e)
+
+  info-reaches : {p : Phase} {r : Reply} → Offered n b m p s → s .transfer .running ≡ TransferInfo
+    → I.infoRequest p b (isSet m) s ≡ r → step (request n b m) s .state .status ≡ r .state .status
+  info-reaches {p} o t e = reaches o ∙ ap status (ap (λ (r : Running). E.servedBy r p b (isSet m) s) t ∙ e)
+
+  pub completes-row : Offered n b m MessageIn s → isTransfer (s .transfer .running) ≡ true → stage s ≡ AfterStatus → eqb b 0x00 ≡ true
+    → halts m s ≡ false → Ended 0x16 (unread s) (step (request n b m) s .state)
+  unfolding X.requestAt X.takeComplete X.completed I.parityNoted unread both
+  completes-row o t at e h =
+      ended-by _
+      (transfer-reaches o t
+      (ap (λ (g : Stage). X.requestAt g MessageIn b (isSet m) s) at ∙ taken _ _ e ∙ unless-sound _ h ∙ open-event s _ (o .quiet)))
+      refl
+
+  before-status : (g : Stage) → isBeforeStatus g ≡ true → X.requestAt g MessageIn b (isSet m) s ≡ X.takeMessage b (isSet m) s
+  unfolding X.requestAt X.bodyRequest X.lateRequest
+  before-status SendIdentify e = clash e refl
+  before-status (SendCommand x) e = clash e refl
+  before-status Body e = refl
+  before-status AfterData e = refl
+  before-status Disconnecting e = clash e refl
+  before-status Reselected e = clash e refl
+  before-status AfterStatus e = clash e refl
+  before-status Elsewhere e = clash e refl
+
+  pub saves-row : Offered n b m MessageIn s → isTransfer (s .transfer .running) ≡ true → isBeforeStatus (stage s) ≡ true → eqb b 0x02 ≡ true
+    → halts m s ≡ false → Ended 0x21 (unread s) (step (request n b m) s .state)
+  unfolding X.takeMessage X.takeSave I.parityNoted unread
+  saves-row o t g e h =
+      ended-by _
+      (transfer-reaches o t (before-status (stage s) g ∙ taken _ _ e ∙ unless-sound _ h ∙ open-event s _ (o .quiet)))
+      refl
+
+  over-row : {p : Phase} → Offered n b m p s → s .transfer .running ≡ TransferInfo → wants p b s ≡ false
+    → Ended (I.overCode p s) (unread s) (step (request n b m) s .state)
+  unfolding I.infoRequest I.infoOver unread
+  over-row {p} o t w =
+      ended-by _ (info-reaches o t (passed-over _ _ (rw (← (info-wants n b m s t p)) w) ∙ open-event s _ (o .quiet))) refl
+
+  pub overruns-row : {p : Phase} → Offered n b m p s → isIdle (s .transfer .running) ≡ false → isSpent s ≡ true
+    → Ended (0x18 + phaseNumber p) (unread s) (step (request n b m) s .state)
+  unfolding isSpent I.overCode pick
+  overruns-row {p} o r e =
+      let t : s .transfer .running ≡ TransferInfo = informs _ r (not-true _ (both-first _ _ e)) in
+      let l : noneLeft s ≡ true = both-second (not (isTransfer (s .transfer .running))) _ e in
+      rw l at (over-row o t (info-wants n b m s t p ∙ second-fails _ _ (rw l)))
+
+  pub surprises-row : {p : Phase} → Offered n b m p s → isIdle (s .transfer .running) ≡ false → wants p b s ≡ false → isSpent s ≡ false
+    → Ended (0x48 + phaseNumber p) (unread s) (step (request n b m) s .state)
+  unfolding X.unexpected I.overCode unread pick
+  surprises-row {p} o r w e =
+      by-test (isTransfer (s .transfer .running))
+      (λ t. ended-by _
+          (transfer-reaches o t
+          (stage-surprises (stage s) p (rw (← (by-stage n b m s t (stage s) refl p)) w) ∙ open-event s _ (o .quiet)))
+          refl)
+      (λ t. let i : s .transfer .running ≡ TransferInfo = informs _ r t in rw (← (info-spent n b m s i), e) at (over-row o i w))
+
+  pub spoils-row : {p : Phase} → Offered n b m p s → isIdle (s .transfer .running) ≡ false → wants p b s ≡ true → comesIn p ≡ true
+    → fits p s ≡ true → halts m s ≡ true → Ended 0x43 (unread s) (step (request n b m) s .state)
+  unfolding I.infoRequest I.infoIn I.halted unread fits both
+  spoils-row {p} o r w c f h =
+      by-test (isTransfer (s .transfer .running))
+      (λ t. ended-by _
+          (transfer-reaches o t
+          (stage-halts h (stage s) p (rw (← (by-stage n b m s t (stage s) refl p)) w) c (λ d. room (rw (t, d))) ∙ open-event s _ (o .quiet)))
+          refl)
+      (λ t. let i : s .transfer .running ≡ TransferInfo = informs _ r t in
+          ended-by _
+          (info-reaches o i
+          (taken _ _ (rw (← (info-wants n b m s i p)) w) ∙ taken _ _ c ∙ taken _ _ (room (rw t)) ∙ halted h _ ∙ open-event s _ (o .quiet)))
+          refl)
+    where
+      room : both (isTransfer (s .transfer .running)) (not (samePhase p DataIn)) ≡ false → hasRoom (s .fifo) ≡ true
+      room e = only-second _ _ f e
+
+  -- the last Message In byte: it is unread itself, where it comes in
+  pub last-row : LastMessage n b m s → Ended 0x20 (isIncoming (s .transfer .direction)) (step (request n b m) s .state)
+  unfolding I.infoRequest I.infoIn I.infoTaken I.takenIn I.parityNoted lowered unread both
+  last-row l =
+      ended-by _
+      (info-reaches (l .offered) (l .runs)
+      (taken _ _ (rw (← (info-wants n b m s (l .runs) MessageIn)) (l .wanted)) ∙ taken _ _ refl ∙ taken _ _ (l .room)
+      ∙ unless-sound _ (l .sound) ∙ taken _ _ (l .last) ∙ open-event s _ (l .offered .quiet)))
+      (second-holds _ _ (rw (pushed b (s .fifo) (l .room))))
+
+  pub asks-row : {p : Phase} → Offered n b m p s → isIdle (s .transfer .running) ≡ true → isNoted p (s .wire .reported) ≡ false
+    → Raised (0x88 + phaseNumber p) (step (request n b m) s .state)
+  unfolding E.idleRequest
+  asks-row {p} o e f =
+      raised-by _ (reaches o ∙ ap status (by-running (s .transfer .running) e ∙ passed-over _ _ f ∙ open-event s _ (o .quiet)))
+    where
+      by-running : (r : Running) → isIdle r ≡ true → E.servedBy r p b (isSet m) s ≡ E.idleRequest p s
+      by-running Idle e = refl
+      by-running SelectWithAtn e = refl
+      by-running SelectWithoutAtn e = refl
+      by-running TransferWithAtn e = clash e refl
+      by-running TransferWithoutAtn e = clash e refl
+      by-running TransferInfo e = clash e refl
+
+-- the rows of a Free
+
+module _ (s : State) (q : Quiet s) (x : s .wire .connection ≡ Connected) where
+  free-reaches : {r : Reply} → E.freedFrom (s .transfer .running) s ≡ r → step free s .state .status ≡ r .state .status
+  unfolding carried E.freed
+  free-reaches e =
+      ap (λ (o : Outcome). o .state .status) (good-step free s is-good)
+      ∙ ap status (ap (λ (c : Connection). E.freedBy c s) x ∙ passed-over _ _ (ap isEnding q) ∙ e)
+    where
+      is-good : isGood free ≡ true
+      is-good = unfold isGood in refl
+
+  pub info-free-row : s .transfer .running ≡ TransferInfo → Ended (I.infoFreeCode s) (unread s) (step free s .state)
+  unfolding E.busFree unread
+  info-free-row t =
+      ended-by _ (free-reaches (ap (λ (r : Running). E.freedFrom r s) t ∙ open-event s _ q)) refl
+
+  transfer-freed : isTransfer (s .transfer .running) ≡ true → E.freedFrom (s .transfer .running) s ≡ X.transferFree s (E.busFree s)
+  transfer-freed e = by-running (s .transfer .running) e
+    where
+      by-running : (r : Running) → isTransfer r ≡ true → E.freedFrom r s ≡ X.transferFree s (E.busFree s)
+      by-running Idle e = clash e refl
+      by-running SelectWithAtn e = clash e refl
+      by-running SelectWithoutAtn e = clash e refl
+      by-running TransferWithAtn e = refl
+      by-running TransferWithoutAtn e = refl
+      by-running TransferInfo e = clash e refl
+
+  pub cuts-transfer-row : isTransfer (s .transfer .running) ≡ true → eqb (s .registers .phase) 0x42 ≡ false
+    → Ended 0x41 (unread s) (step free s .state)
+  unfolding X.transferFree E.busFree unread
+  cuts-transfer-row t e = ended-by _ (free-reaches (transfer-freed t ∙ passed-over _ _ e ∙ open-event s _ q)) refl
+
+  pub leaves-transfer-row : isTransfer (s .transfer .running) ≡ true → eqb (s .registers .phase) 0x42 ≡ true → idi s ≡ true
+    → Ended 0x85 (unread s) (step free s .state)
+  unfolding X.transferFree X.freeAfterDisconnect E.busFree unread
+  leaves-transfer-row t e d =
+      ended-by _ (free-reaches (transfer-freed t ∙ taken _ _ e ∙ taken _ _ d ∙ open-event s _ q)) refl
+
+  pub idle-free-row : isIdle (s .transfer .running) ≡ true → Raised 0x85 (step free s .state)
+  unfolding E.idleFree
+  idle-free-row e = raised-by _ (free-reaches (by-running (s .transfer .running) e ∙ open-event s _ q))
+    where
+      by-running : (r : Running) → isIdle r ≡ true → E.freedFrom r s ≡ E.idleFree s
+      by-running Idle e = refl
+      by-running SelectWithAtn e = refl
+      by-running SelectWithoutAtn e = refl
+      by-running TransferWithAtn e = clash e refl
+      by-running TransferWithoutAtn e = clash e refl
+      by-running TransferInfo e = clash e refl

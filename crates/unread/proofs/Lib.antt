@@ -1,0 +1,9 @@
+pub mod Choosing
+pub mod Telling
+pub mod Host
+pub mod Bus
+pub mod Told
+pub mod Unread
+pub mod History
+pub mod Asked
+pub mod Rows

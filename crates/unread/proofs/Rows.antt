@@ -1,0 +1,217 @@
+-- The other rows of the table: commands, Time, Answer, Reselection, and the reads that end a read-out.
+--   aborts-connected-row aborts-row refuses-row resumes-row   commands
+--   times-out-row answers-row reselects-row                   events
+--   reads-out-row moves-out-row                               reads
+use mathlib.Core.Path.{_≡_, refl, sym, ap, _∙_}
+use mathlib.Core.Bool.{Bool, true, false, not}
+use mathlib.Core.List.{List, [], _∷_}
+use Prim.Native.Nat.{ℕ, suc, _+_, _-_, _<_, _≤_}
+use native.Mathlib.Omega.{arith}
+use lib.Dec.{eqb, leb}
+use lib.ListN.{length}
+use borrow.Author.Tests.{eqb-true, eq-eqb, ne-eqb}
+use Rattle.chip.specs.Choice.{pick, both, either}
+use Rattle.chip.specs.Phases.{phaseNumber}
+use Rattle.chip.specs.Lines.{codeOf, isSingle, qualifies}
+use Rattle.chip.specs.Fifo.{isEmpty, front, pop, waits}
+use Rattle.chip.specs.State.{setFifo}
+use Rattle.chip.specs.Answers.{done}
+use Rattle.chip.specs.TransferInfo.{dbr}
+use Rattle.chip.specs.Count.{loaded}
+use Rattle.chip.specs.Interrupts.{interrupted, isInterrupt, isEnding, ends, busy, isRunning, interrupt, endingWith, raise, settled, settledBy, unread, isIncoming}
+use Rattle.chip.specs.SelectAndTransfer.{resumed, isResumable, isEarly, isMiddle, isAtEnd}
+use Rattle.chip.specs.Commands.{isConnected, isWaiting, isPlace, isTwo, isReady, isValid, isRefusedBusy, entryOf, table, aborted, transferring, carriedOut, accepted, commanded, abortPhase}
+use Rattle.chip.specs.Registers as R
+use Rattle.chip.specs.Events as E
+use Rattle.chip.specs.Events.{isTransfer}
+use Rattle.chip.specs.Calls.{Call, Outcome, block, time, answer, reselection, isGood, isSet, plain, step, carried}
+use Rattle.chip.specs.declared.State.{State}
+use Rattle.chip.specs.declared.Reply.{Reply}
+use Rattle.chip.specs.declared.Status.{Status}
+use Rattle.chip.specs.declared.Running.{Running}
+use Rattle.chip.specs.declared.Connection.{Connection}
+use Rattle.chip.specs.declared.Connection.the-variants.{Disconnected, Selecting, Waiting, Connected}
+use Rattle.chip.specs.declared.Fifo.{Fifo}
+use Rattle.chip.specs.declared.Direction.{Direction}
+use Rattle.chip.specs.declared.Direction.the-variants.{Unfixed, In, Out}
+use Rattle.chip.specs.declared.Pending.{Pending}
+use Rattle.chip.specs.declared.Pending.the-variants.{Nothing, Interrupt, Ending}
+use Rattle.unread.specs.Status.{isCommand, readsAt}
+use Rattle.unread.specs.Because.{Quiet}
+use Rattle.unread.proofs.Choosing.{taken, passed-over, by-test, clash, second-fails, one-of}
+use Rattle.unread.proofs.Host as H
+use Rattle.unread.proofs.Host.{Drains, block-drains, some-wait, none-wait, one-less}
+use Rattle.unread.proofs.Told.{good-step, Issued, issued, Read, is-read}
+use Rattle.unread.proofs.Asked.{Raised, Ended, raised-by, ended-by, open-event}
+
+abbrev status : Reply → Status
+status r = r .state .status
+
+-- commands
+
+module _ (c : Call) (s : State) (q : Quiet s) where
+  stepped-raised : {k : ℕ} (a : ℕ) (r : Reply) → step c s ≡ plain (R.stepped a r) → Raised k (r .state) → Raised k (step c s .state)
+  unfolding R.stepped
+  stepped-raised a r e h = rw e (record { code = h .code; int = h .int })
+
+  stepped-ended : {k : ℕ} {w : Bool} (a : ℕ) (r : Reply) → step c s ≡ plain (R.stepped a r) → Ended k w (r .state)
+    → Ended k w (step c s .state)
+  stepped-ended a r e h =
+      record { raised-now = λ f. stepped-raised a r e (h .raised-now f); read-first = λ f. unfold R.stepped in rw e (h .read-first f) }
+
+  -- a command that is taken
+  taken-command : (b : ℕ) → eqb (codeOf b) 0x00 ≡ false → isRefusedBusy (codeOf b) s ≡ false → isValid (codeOf b) s ≡ true
+    → commanded b s .state ≡ carriedOut (codeOf b) (isSingle b) (accepted b s)
+  unfolding commanded
+  taken-command b n r v =
+      ap (λ (x : Reply). x .state) (passed-over _ _ n ∙ passed-over _ _ (ap isInterrupt q) ∙ passed-over _ _ r ∙ taken _ _ v)
+
+  module _ (runs : isRunning (s .transfer .running) ≡ true) where
+    abort-valid : isValid 0x01 s ≡ true
+    unfolding isValid isReady entryOf table busy both either pick
+    abort-valid = rw (runs, q)
+
+    abort-kept : isRefusedBusy 0x01 s ≡ false
+    unfolding isRefusedBusy entryOf table either
+    abort-kept = second-fails (busy s) _ (rw abort-valid)
+
+    abort-taken : (b : ℕ) → codeOf b ≡ 0x01 → commanded b s .state ≡ aborted (accepted b s)
+    unfolding carriedOut pick
+    abort-taken b e = taken-command b (rw e) (rw (e, abort-kept)) (rw (e, abort-valid)) ∙ rw e
+
+    pub aborts-connected-row : isCommand 0x01 c s ≡ true → s .wire .connection ≡ Connected
+      → Ended (0x28 + phaseNumber (abortPhase (s .wire .last))) (unread s) (step c s .state)
+    unfolding aborted accepted unread
+    aborts-connected-row e x =
+        let h : Issued 0x01 c s = issued 0x01 c s e in
+        stepped-ended 0x18 _ (h .leaves)
+        (ended-by _ (ap (λ (t : State). t .status) (abort-taken (h .byte) (h .code) ∙ taken _ _ (ap isConnected x))) refl)
+
+    pub aborts-row : isCommand 0x01 c s ≡ true → isConnected (s .wire .connection) ≡ false → Raised 0x22 (step c s .state)
+    unfolding aborted accepted
+    aborts-row e x =
+        let h : Issued 0x01 c s = issued 0x01 c s e in
+        stepped-raised 0x18 _ (h .leaves)
+        (raised-by _ (ap (λ (t : State). t .status) (abort-taken (h .byte) (h .code) ∙ passed-over _ _ x)))
+
+  module _ (idle : isRunning (s .transfer .running) ≡ false) where
+    is-free : busy s ≡ false
+    unfolding busy either
+    is-free = rw (idle, q)
+
+    kept-free : (k : ℕ) → isRefusedBusy k s ≡ false
+    unfolding isRefusedBusy both
+    kept-free k = rw is-free
+
+    refused-command : (b : ℕ) → eqb (codeOf b) 0x00 ≡ false → isValid (codeOf b) s ≡ false
+      → commanded b s .state ≡ interrupt 0x40 (accepted b s)
+    unfolding commanded
+    refused-command b n v =
+        ap (λ (x : Reply). x .state)
+        (passed-over _ _ n ∙ passed-over _ _ (ap isInterrupt q) ∙ passed-over _ _ (kept-free _) ∙ passed-over _ _ v)
+
+    pub refuses-row : (k : ℕ) → isCommand k c s ≡ true → eqb k 0x00 ≡ false → isValid k s ≡ false → Raised 0x40 (step c s .state)
+    refuses-row k e n v =
+        let h : Issued k c s = issued k c s e in
+        stepped-raised 0x18 _ (h .leaves) (rw (refused-command (h .byte) (rw (h .code, n)) (rw (h .code, v))) (record { code = refl; int = refl }))
+
+    module _ (x : s .wire .connection ≡ Connected) (p : s .registers .phase ≡ 0x60) where
+      resumable : isResumable s ≡ true
+      unfolding isResumable isEarly isMiddle isAtEnd either pick
+      resumable = rw p
+
+      resume-valid : (k : ℕ) → either (eqb k 0x08) (eqb k 0x09) ≡ true → isValid k s ≡ true
+      unfolding isValid isReady entryOf table both either pick
+      resume-valid k w = one-of (λ (j : ℕ). isValid j s ≡ true) 0x08 0x09 k w (rw (resumable, x)) (rw (resumable, x))
+
+      resume-raises : (r : Running) (b : ℕ) → Ended 0x16 false (transferring r (accepted b s))
+      unfolding transferring resumed loaded accepted unread both
+      resume-raises r b = ended-by _ (ap (λ (t : State). t .status) (taken _ _ (ap isConnected x) ∙ taken _ _ (eq-eqb _ _ p))) refl
+
+      -- what 08 and 09 do
+      resume-carried : (k b : ℕ) → either (eqb k 0x08) (eqb k 0x09) ≡ true → Ended 0x16 false (carriedOut k (isSingle b) (accepted b s))
+      unfolding carriedOut pick
+      resume-carried k b w =
+          one-of (λ (j : ℕ). Ended 0x16 false (carriedOut j (isSingle b) (accepted b s))) 0x08 0x09 k w (resume-raises _ b) (resume-raises _ b)
+
+      pub resumes-row : (k : ℕ) → isCommand k c s ≡ true → either (eqb k 0x08) (eqb k 0x09) ≡ true → Raised 0x16 (step c s .state)
+      resumes-row k e w =
+          let h : Issued k c s = issued k c s e in
+          let n : eqb k 0x00 ≡ false = one-of (λ (j : ℕ). eqb j 0x00 ≡ false) 0x08 0x09 k w refl refl in
+          stepped-raised 0x18 _ (h .leaves)
+          (rw (taken-command (h .byte) (rw (h .code) n) (kept-free _) (rw (h .code) (resume-valid k w)), h .code)
+              (resume-carried k (h .byte) w .raised-now refl))
+
+-- events
+
+pub times-out-row : (n : ℕ) (s : State) → isGood (time n) ≡ true → Quiet s → s .wire .connection ≡ Selecting
+    → eqb (s .registers .timeout) 0 ≡ false → leb (s .registers .timeout) (s .wire .elapsed + n) ≡ true
+    → Raised 0x42 (step (time n) s .state)
+unfolding carried E.passed E.selectionTime E.timedOut
+times-out-row n s g q x t l =
+    raised-by _
+    (ap (λ (o : Outcome). o .state .status) (good-step (time n) s g)
+    ∙ ap status
+      (passed-over _ _ (ap isEnding q) ∙ ap (λ (c : Connection). E.passedBy c n s) x ∙ passed-over _ _ (ap isInterrupt q) ∙ passed-over _ _ t
+      ∙ taken _ _ l))
+
+pub answers-row : (s : State) → Quiet s → s .wire .connection ≡ Selecting → isTransfer (s .transfer .running) ≡ false
+    → Raised 0x11 (step answer s .state)
+unfolding carried E.answered E.answeredSelecting
+answers-row s q x t =
+    raised-by _
+    (ap (λ (o : Outcome). o .state .status) (good-step answer s (unfold isGood in refl))
+    ∙ ap status
+      (ap (λ (c : Connection). E.answeredBy c s) x ∙ passed-over _ _ (ap isEnding q) ∙ passed-over _ _ t ∙ open-event s _ q))
+
+pub reselects-row : (lines : ℕ) (s : State) → isGood (reselection lines) ≡ true → Quiet s → qualifies lines s ≡ true
+    → isConnected (s .wire .connection) ≡ false → both (isWaiting (s .wire .connection)) (E.namesTarget lines s) ≡ false
+    → Raised 0x80 (step (reselection lines) s .state)
+unfolding carried E.reselected E.reselectedLoud E.reselectedWaiting
+reselects-row lines s g q f x w =
+    raised-by _
+    (ap (λ (o : Outcome). o .state .status) (good-step (reselection lines) s g)
+    ∙ ap status (taken _ _ f ∙ by-connection (s .wire .connection) x w ∙ open-event s _ q))
+  where
+    by-connection : (c : Connection) → isConnected c ≡ false → both (isWaiting c) (E.namesTarget lines s) ≡ false
+      → E.reselectedBy c lines s ≡ E.reselectedLoud lines s
+    by-connection Disconnected x w = passed-over _ _ (ap isEnding q)
+    by-connection Selecting x w = passed-over _ _ (ap isEnding q)
+    by-connection Waiting x w = passed-over _ _ (ap isEnding q) ∙ passed-over _ _ (unfold both in w)
+    by-connection Connected x w = clash refl x
+
+-- reads
+
+is-in : (d : Direction) → isIncoming d ≡ true → d ≡ In
+is-in Unfixed e = clash e refl
+is-in In e = refl
+is-in Out e = clash e refl
+
+data-read : (s : State) → isIncoming (s .transfer .direction) ≡ true → isEmpty (s .fifo) ≡ false
+    → R.dataRead s ≡ done (front (s .fifo)) (settled (setFifo (pop (s .fifo)) s))
+unfolding R.dataRead
+data-read s d e = ap (λ (x : Direction). R.dataReadBy x s) (is-in _ d) ∙ taken _ _ has-byte
+  where
+    has-byte : dbr s ≡ true
+    has-byte = unfold dbr in rw (is-in _ d, e)
+
+-- INT is set: no read of the Data register tells anything
+drains-on : {n : ℕ} {s : State} {k : ℕ} {q : Pending} → Drains n s k q → s .status .pending ≡ Interrupt
+    → (k ≡ s .status .code) × (q ≡ Interrupt)
+drains-on H.drains-nothing i = (refl, i)
+drains-on (H.drains-wait e) i = clash (ap isInterrupt (sym i ∙ e)) refl
+drains-on (H.drains-ending d w v e) i = clash (ap isInterrupt (sym i ∙ e)) refl
+
+block-raises : (k : ℕ) (l : List ℕ) (s : State) → isIncoming (s .transfer .direction) ≡ true → 0 < waits (s .fifo)
+    → waits (s .fifo) ≤ length l → s .status .pending ≡ Ending k → Raised k (R.blockRead l s .state)
+unfolding R.blockRead
+block-raises k [] s d v u p = absurd (omega arith)
+block-raises k (x ∷ l) s d v u p =
+    let e : isEmpty (s .fifo) ≡ false = some-there (s .fifo) v in
+    rw (data-read s d e)
+    (by-test (isEmpty (pop (s .fifo)))
+    (λ z. ?last)
+    (λ z. ?more))
+  where
+    some-there : (q : Fifo) → 0 < waits q → isEmpty q ≡ false
+    some-there q v = ?st

@@ -1,0 +1,133 @@
+-- What every call tells, from every state: the walk's result, and the two calls that it singles out, computed.
+--   good-step      a call whose operands are in range is carried out
+--   told           what a call does to the code at 17h and to what is pending
+--   Issued         a command, as the step takes it
+--   issued         .. of a call that writes a command
+--   reset-told     Reset raises 00
+--   Read is-read   a register read, as the step takes it
+--   ReadTold       what a read of 17h answers and leaves: Blind, or the code
+--   status-read    .. of a call that reads 17h
+use mathlib.Core.Path.{_≡_, refl, sym, ap, ap₂, _∙_}
+use mathlib.Core.Bool.{Bool, true, false, not}
+use mathlib.Core.List.{List}
+use Prim.Native.Nat.{ℕ}
+use lib.Dec.{eqb}
+use borrow.Author.Tests.{eqb-true, not-true}
+use Rattle.chip.specs.Choice.{pick, both, either}
+use Rattle.chip.specs.Lines.{codeOf}
+use Rattle.chip.specs.Interrupts.{busy, withoutInterrupt}
+use Rattle.chip.specs.Commands.{commanded, reset}
+use Rattle.chip.specs.Registers as R
+use Rattle.chip.specs.Calls.{Call, Outcome, pointer, auxiliary, register, block, time, answer, reselection, request, free, isGood, isSet, plain, step, carried}
+use Rattle.chip.specs.declared.State.{State}
+use Rattle.chip.specs.declared.Reply.{Reply}
+use Rattle.chip.specs.declared.Answer.{Answer}
+use Rattle.chip.specs.declared.Answer.the-variants.{Done, Blind}
+use Rattle.chip.specs.declared.Pending.{Pending}
+use Rattle.chip.specs.declared.Pending.the-variants.{Interrupt}
+use Rattle.unread.specs.Status.{isCommand, isReset, readsAt}
+use Rattle.unread.proofs.Choosing.{chosen, chosen-if, by-test, clash, both-first, both-second}
+use Rattle.unread.proofs.Telling.{ToldState, ToldReply, silent}
+use Rattle.unread.proofs.Host.{accessed-tells, block-tells, block-written-tells}
+use Rattle.unread.proofs.Bus.{passed-tells, answered-tells, reselected-tells, requested-tells, freed-tells}
+
+pub told : (c : Call) (s : State) → ToldState c s (step c s .state)
+unfolding step carried R.pointerSet R.pointerRead R.auxiliaryRead
+told c s = chosen-if (λ (o : Outcome). ToldState c s (o .state)) _ (by-call c) (λ g. silent)
+  where
+    by-call : (c : Call) → isGood c ≡ true → ToldState c s (carried c s .state)
+    by-call (pointer m b) g = chosen (ToldReply (pointer m b) s) _ silent silent
+    by-call auxiliary g = silent
+    by-call (register m b) g = accessed-tells m b s g
+    by-call (block m l) g =
+        chosen-if (λ (r : R.Moved). ToldState (block m l) s (r .state)) _ (λ w. block-written-tells m l s) (block-tells m l s g)
+    by-call (time n) g = passed-tells n s g
+    by-call answer g = answered-tells s
+    by-call (reselection lines) g = reselected-tells lines s g
+    by-call (request p b q) g = requested-tells p b q s g
+    by-call free g = freed-tells s
+
+-- a call that is carried out
+pub good-step : (c : Call) (s : State) → isGood c ≡ true → step c s ≡ carried c s
+unfolding step pick
+good-step c s g = rw g
+
+-- a register access with its address and its mark known
+access-step : (m b : ℕ) (s : State) (a : ℕ) (w : Bool) → isGood (register m b) ≡ true → isSet m ≡ w → eqb (s .status .pointer) a ≡ true
+    → step (register m b) s ≡ plain (R.stepped a (R.accessedAt a w b s))
+unfolding carried R.accessed
+access-step m b s a w g f e =
+    good-step (register m b) s g ∙ ap₂ (λ (x : ℕ) (v : Bool). plain (R.stepped x (R.accessedAt x v b s))) (eqb-true _ _ e) f
+
+-- commands
+
+pub record Issued (k : ℕ) (c : Call) (s : State) : Type 0 where
+  pub byte : ℕ
+  pub code : codeOf byte ≡ k
+  pub leaves : step c s ≡ plain (R.stepped 0x18 (commanded byte s))
+
+never-blind : (b : ℕ) (s : State) → R.accessedAt 0x18 true b s ≡ commanded b s
+unfolding R.accessedAt R.isBlind R.writtenAt both either pick
+never-blind b s = by-test (busy s) (λ e. rw e) (λ e. rw e)
+
+pub issued : (k : ℕ) (c : Call) (s : State) → isCommand k c s ≡ true → Issued k c s
+unfolding isCommand
+issued k (pointer m b) s e = clash e refl
+issued k auxiliary s e = clash e refl
+issued k (register m b) s e =
+    let f : both (isSet m) (both (eqb (s .status .pointer) 0x18) (eqb (codeOf b) k)) ≡ true = both-second (isGood (register m b)) _ e in
+    let h : both (eqb (s .status .pointer) 0x18) (eqb (codeOf b) k) ≡ true = both-second (isSet m) _ f in
+    record {
+      byte = b;
+      code = eqb-true _ _ (both-second (eqb (s .status .pointer) 0x18) _ h);
+      leaves =
+        access-step m b s 0x18 true (both-first _ _ e) (both-first _ _ f) (both-first _ _ h)
+        ∙ ap (λ (r : Reply). plain (R.stepped 0x18 r)) (never-blind b s);
+    }
+issued k (block m l) s e = clash e refl
+issued k (time n) s e = clash e refl
+issued k answer s e = clash e refl
+issued k (reselection lines) s e = clash e refl
+issued k (request p b q) s e = clash e refl
+issued k free s e = clash e refl
+
+pub reset-told : (c : Call) (s : State) → isReset c s ≡ true → (step c s .state .status .code ≡ 0x00) × (step c s .state .status .pending ≡ Interrupt)
+unfolding isReset commanded reset R.stepped pick
+reset-told c s e =
+    let h : Issued 0x00 c s = issued 0x00 c s e in
+    rw (h .leaves, h .code) (refl, refl)
+
+-- reads
+
+pub record Read (a : ℕ) (c : Call) (s : State) : Type 0 where
+  pub byte : ℕ
+  pub gives : step c s ≡ plain (R.stepped a (R.accessedAt a false byte s))
+
+pub is-read : (a : ℕ) (c : Call) (s : State) → readsAt a c s ≡ true → Read a c s
+unfolding readsAt
+is-read a (pointer m b) s e = clash e refl
+is-read a auxiliary s e = clash e refl
+is-read a (register m b) s e =
+    let f : both (not (isSet m)) (eqb (s .status .pointer) a) ≡ true = both-second (isGood (register m b)) _ e in
+    record { byte = b; gives = access-step m b s a false (both-first _ _ e) (not-true _ (both-first _ _ f)) (both-second (not (isSet m)) _ f) }
+is-read a (block m l) s e = clash e refl
+is-read a (time n) s e = clash e refl
+is-read a answer s e = clash e refl
+is-read a (reselection lines) s e = clash e refl
+is-read a (request p b q) s e = clash e refl
+is-read a free s e = clash e refl
+
+pub data ReadTold (s : State) : Outcome → Type 0 where
+  blind : {o : Outcome} → o .answer ≡ Blind → o .state .status .code ≡ s .status .code → o .state .status .pending ≡ s .status .pending → ReadTold s o
+  read : {o : Outcome} → o .answer ≡ Done (s .status .code) → o .state .status .code ≡ s .status .code
+    → o .state .status .pending ≡ withoutInterrupt (s .status .pending) → ReadTold s o
+
+readable : (b : ℕ) (s : State) → ReadTold s (plain (R.stepped 0x17 (pick false (R.writtenAt 0x17 b s) (R.readAt 0x17 s))))
+unfolding R.stepped R.readAt pick
+readable b s = read refl refl refl
+
+pub status-read : (c : Call) (s : State) → readsAt 0x17 c s ≡ true → ReadTold s (step c s)
+unfolding R.stepped R.accessedAt
+status-read c s e =
+    let h : Read 0x17 c s = is-read 0x17 c s e in
+    rw (h .gives) (chosen (λ (r : Reply). ReadTold s (plain (R.stepped 0x17 r))) _ (blind refl refl refl) (readable (h .byte) s))

@@ -1,0 +1,4 @@
+pub mod Status
+pub mod Unread
+pub mod History
+pub mod Because

@@ -1,0 +1,46 @@
+-- The words of the laws on the status at 17h: which call is a command, which reads a register, which raised a code.
+--   isCommand k c s   the call c, made in s, writes a command with the code k to 18h
+--   isReset c s       .. the Reset command
+--   readsAt a c s     the call c, made in s, reads the register at the address a
+--   raised c s t      the call c, which led from s to t, raised the code that t shows at 17h
+-- INT is `interrupted` of the chip's Interrupts, the code at 17h is `status .code`.
+use mathlib.Core.Bool.{Bool, true, false, not}
+use Prim.Native.Nat.{ℕ}
+use lib.Dec.{eqb}
+use Rattle.chip.specs.Choice.{both, either}
+use Rattle.chip.specs.Lines.{codeOf}
+use Rattle.chip.specs.Interrupts.{interrupted}
+use Rattle.chip.specs.Calls.{Call, pointer, auxiliary, register, block, time, answer, reselection, request, free, isGood, isSet}
+use Rattle.chip.specs.declared.State.{State}
+
+unfoldable pub isCommand : ℕ → Call → State → Bool
+isCommand k (pointer m b) s = false
+isCommand k auxiliary s = false
+isCommand k (register m b) s =
+    both (isGood (register m b)) (both (isSet m) (both (eqb (s .status .pointer) 0x18) (eqb (codeOf b) k)))
+isCommand k (block m l) s = false
+isCommand k (time n) s = false
+isCommand k answer s = false
+isCommand k (reselection lines) s = false
+isCommand k (request p b q) s = false
+isCommand k free s = false
+
+unfoldable pub readsAt : ℕ → Call → State → Bool
+readsAt a (pointer m b) s = false
+readsAt a auxiliary s = false
+readsAt a (register m b) s = both (isGood (register m b)) (both (not (isSet m)) (eqb (s .status .pointer) a))
+readsAt a (block m l) s = false
+readsAt a (time n) s = false
+readsAt a answer s = false
+readsAt a (reselection lines) s = false
+readsAt a (request p b q) s = false
+readsAt a free s = false
+
+unfoldable pub isReset : Call → State → Bool
+isReset c s = isCommand 0x00 c s
+
+-- INT is set after the call, and it was not before, or the code is another, or the call is a Reset
+unfoldable pub raised : Call → State → State → Bool
+raised c s t =
+    both (interrupted t)
+    (either (not (interrupted s)) (either (not (eqb (t .status .code) (s .status .code))) (isReset c s)))
