@@ -178,5 +178,11 @@ fn request_at(stage: Stage, p: Phase, b: u8, bad: bool, s: State) -> Reply
 pub fn transfer_request(identifies: bool, p: Phase, b: u8, bad: bool, s: State) -> Reply
     ensures { λ r. ⌜ r ≡ transferRequest identifies p b bad s ⌝ }
 {
-    request_at(stage::stage_of(identifies, s.registers.phase, stage::size(s)), p, b, bad, s)
+    request_at(
+        stage::stage_of(identifies, s.registers.phase, stage::size(s)),
+        p,
+        b,
+        bad,
+        s,
+    )
 }

@@ -3,13 +3,16 @@
 -- refused-image, refused-operand: Bad number, and the image as it was.
 use mathlib.Core.Path.{_≡_, refl, ap, sym, _∙_}
 use mathlib.Core.Bool.{Bool, true, false}
-use mathlib.Core.List.{List}
-use Prim.Native.Nat.{ℕ}
-use lib.Dec.{eqb}
+use mathlib.Core.List.{List, []}
+use Prim.Native.Nat.{ℕ, _*_}
+use lib.Dec.{eqb, ltb}
 use lib.ListN.{length}
 use Rattle.chip.specs.Choice.{pick, both}
-use Rattle.chip.specs.Calls.{Call, Outcome, isGood, carried, plain}
-use Rattle.chip.specs.Entries.{Left, result, written, refused, entered}
+use Rattle.chip.specs.Calls.{Call, Outcome, isGood, isSet, carried, plain, moved, block}
+use Rattle.chip.specs.Registers.{Moved, blockRead, blockWritten}
+use Rattle.chip.specs.declared.Answer.the-variants.{Done}
+use Rattle.chip.specs.Entries.{Left, result, written, refused, entered, lineBits, linesEntered, freshEntered}
+use Rattle.chip.specs.State.{fresh}
 use Rattle.chip.specs.Image.{imageOf, stateOf, isImage}
 use Rattle.chip.specs.declared.Reply.{Reply}
 use Rattle.chip.specs.declared.State.{State}
@@ -59,9 +62,10 @@ unfolding pick
 served c l r p n after e h g k a b =
     let i : isImage l ≡ true = image-read l r e h in
     let w : entered c l ≡ written (plain p) =
-        taken c l i g ∙ ap (λ (s : State). written (carried c s)) (sym (state-read l r e h)) ∙ ap written k in
-    (a ∙ sym (ap (λ (x : Left). x .result) w),
-     b ∙ (let long : eqb (length l) 53 ≡ true = long-enough l i in rw long) ∙ sym (ap (λ (x : Left). x .image) w))
+    taken c l i g ∙ ap (λ (s : State). written (carried c s)) (sym (state-read l r e h)) ∙ ap written k in (
+      a ∙ sym (ap (λ (x : Left). x .result) w),
+      b ∙ (let long : eqb (length l) 53 ≡ true = long-enough l i in rw long) ∙ sym (ap (λ (x : Left). x .image) w),
+    )
 
 no-image : (c : Call) (l : List ℕ) → isImage l ≡ false → entered c l ≡ refused c l
 unfolding entered pick both
@@ -85,9 +89,77 @@ pub and-true : {a b : Bool} → a ≡ true → b ≡ true → both a b ≡ true
 unfolding both
 and-true {a} {b} p q = rw (p, q)
 
-pub and-false : {a b : Bool} → a ≡ false → both a b ≡ false
+pub and-false : (a b : Bool) → a ≡ false → both a b ≡ false
 unfolding both
-and-false {a} {b} p = rw p
+and-false a b p = rw p
 
-pub and-then-false : {a b : Bool} → b ≡ false → both a b ≡ false
-and-then-false {a} {b} q = rw q (both-false a)
+pub and-then-false : (a b : Bool) → b ≡ false → both a b ≡ false
+and-then-false a b q = rw q (both-false a)
+
+-- a block move: v is what the mark's kind of block gives, k and t its number and state as the code has them
+pub block-served : (mark : ℕ) (d l : List ℕ) (r : Reading) (v : Moved) (k : ℕ) (t : State) (n : ℕ) (after d′ : List ℕ)
+    → r ≡ readOf l → r .ok ≡ true → ltb mark 2 ≡ true
+    → pick (isSet mark) (blockWritten d (r .state)) (blockRead d (r .state)) ≡ v → k ≡ v .number → t ≡ v .state
+    → n ≡ result (Done k) → after ≡ pick (eqb (length l) 53) (imageOf t) l → d′ ≡ v .bytes
+    → (n ≡ entered (block mark d) l .result) × (after ≡ entered (block mark d) l .image) × (d′ ≡ entered (block mark d) l .lent)
+unfolding pick isGood carried
+block-served mark d l r v k t n after d′ e h g q kn ts a b z =
+    let i : isImage l ≡ true = image-read l r e h in
+    let w : entered (block mark d) l ≡ written (moved v) =
+    taken (block mark d) l i g ∙ ap (λ (s : State). written (carried (block mark d) s)) (sym (state-read l r e h))
+    ∙ ap (λ (x : Moved). written (moved x)) q in (
+      a ∙ ap (λ (x : ℕ). result (Done x)) kn ∙ sym (ap (λ (x : Left). x .result) w),
+      b ∙ (let long : eqb (length l) 53 ≡ true = long-enough l i in rw long) ∙ ap imageOf ts
+          ∙ sym (ap (λ (x : Left). x .image) w),
+      z ∙ sym (ap (λ (x : Left). x .lent) w),
+    )
+
+pub block-refused-image : (mark : ℕ) (d l : List ℕ) (r : Reading) → r ≡ readOf l → r .ok ≡ false
+    → (3 ≡ entered (block mark d) l .result) × (l ≡ entered (block mark d) l .image) × (d ≡ entered (block mark d) l .lent)
+block-refused-image mark d l r e h =
+    let w : entered (block mark d) l ≡ refused (block mark d) l = no-image (block mark d) l (sym (ok-is l r e) ∙ h) in
+    (sym (ap (λ (x : Left). x .result) w), sym (ap (λ (x : Left). x .image) w), sym (ap (λ (x : Left). x .lent) w))
+
+pub block-refused-mark : (mark : ℕ) (d l : List ℕ) → ltb mark 2 ≡ false
+    → (3 ≡ entered (block mark d) l .result) × (l ≡ entered (block mark d) l .image) × (d ≡ entered (block mark d) l .lent)
+unfolding isGood
+block-refused-mark mark d l g =
+    let w : entered (block mark d) l ≡ refused (block mark d) l = no-operand (block mark d) l g in
+    (sym (ap (λ (x : Left). x .result) w), sym (ap (λ (x : Left). x .image) w), sym (ap (λ (x : Left). x .lent) w))
+
+-- what a board drives on the bus
+pub lines-read : (l : List ℕ) (r : Reading) → r ≡ readOf l → r .ok ≡ true → 256 * lineBits (r .state) ≡ linesEntered l
+unfolding linesEntered pick
+lines-read l r e h =
+    let i : isImage l ≡ true = image-read l r e h in
+    rw i (ap (λ (s : State). 256 * lineBits s) (state-read l r e h))
+
+pub lines-refused : (l : List ℕ) (r : Reading) → r ≡ readOf l → r .ok ≡ false → 3 ≡ linesEntered l
+unfolding linesEntered pick
+lines-refused l r e h =
+    let i : isImage l ≡ false = sym (ok-is l r e) ∙ h in
+    rw i
+
+pub pick-true : {A : Type 0} (t : Bool) (a b : A) → t ≡ true → pick t a b ≡ a
+unfolding pick
+pick-true t a b e = rw e
+
+pub pick-false : {A : Type 0} (t : Bool) (a b : A) → t ≡ false → pick t a b ≡ b
+unfolding pick
+pick-false t a b e = rw e
+
+-- the fresh image
+pub fresh-served : (l after : List ℕ) (t : State) → eqb (length l) 53 ≡ true → t ≡ fresh
+    → after ≡ pick (eqb (length l) 53) (imageOf t) l → (0 ≡ freshEntered l .result) × (after ≡ freshEntered l .image)
+unfolding freshEntered
+fresh-served l after t long e a =
+    let w : freshEntered l ≡ record { result = 0; image = imageOf fresh; lent = [] } = pick-true _ _ _ long in (
+      sym (ap (λ (x : Left). x .result) w),
+      a ∙ pick-true _ _ _ long ∙ ap imageOf e ∙ sym (ap (λ (x : Left). x .image) w),
+    )
+
+pub fresh-refused : (l : List ℕ) → eqb (length l) 53 ≡ false → (3 ≡ freshEntered l .result) × (l ≡ freshEntered l .image)
+unfolding freshEntered
+fresh-refused l long =
+    let w : freshEntered l ≡ record { result = 3; image = l; lent = [] } = pick-false _ _ _ long in
+    (sym (ap (λ (x : Left). x .result) w), sym (ap (λ (x : Left). x .image) w))

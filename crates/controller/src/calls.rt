@@ -6,7 +6,9 @@ ghost use Rattle.chip.specs.Choice.{pick};
 ghost use Rattle.chip.specs.Entries.{connectionBits, lineBits};
 ghost use Rattle.chip.specs.Lines.{bit};
 ghost use Rattle.chip.specs.Registers.{pointerRead, pointerSet};
-use chip::{Connection, Reply, State};
+use chip::Connection;
+use chip::Reply;
+use chip::State;
 use state::get;
 
 pub fn pointer(mark: u32, byte: u8, s: State) -> Reply
@@ -18,7 +20,7 @@ pub fn pointer(mark: u32, byte: u8, s: State) -> Reply
     host::pointer_read(s)
 }
 
-fn connection_bits(c: Connection) -> u32
+fn connection_bits(c: Connection) -> u8
     ensures { λ r. ⌜ r ≡ connectionBits c ⌝ }
 {
     match c {
@@ -29,7 +31,7 @@ fn connection_bits(c: Connection) -> u32
     }
 }
 
-fn atn_bit(atn: bool) -> u32
+fn atn_bit(atn: bool) -> u8
     ensures { λ r. ⌜ r ≡ bit atn * 64 ⌝ }
 {
     if atn {
@@ -38,7 +40,7 @@ fn atn_bit(atn: bool) -> u32
     0
 }
 
-fn ack_bit(ack: bool) -> u32
+fn ack_bit(ack: bool) -> u8
     ensures { λ r. ⌜ r ≡ bit ack * 128 ⌝ }
 {
     if ack {
@@ -47,14 +49,19 @@ fn ack_bit(ack: bool) -> u32
     0
 }
 
-pub fn line_bits(s: State) -> u32
-    ensures { λ r. ⌜ r ≡ lineBits s ⌝ }
+// The answer of am33c93a_lines: Done, with the lines as its value.
+pub fn line_result(s: State) -> u32
+    ensures { λ r. ⌜ r ≡ 256 * lineBits s ⌝ }
 {
     let target = lines::destination(s);
     let own = get::identity(s);
-    (target.number as u32)
-        + connection_bits(get::connection(s))
-        + atn_bit(s.wire.atn)
-        + ack_bit(s.wire.ack)
-        + (own.number as u32) * 256
+    let connection = connection_bits(get::connection(s));
+    let atn = atn_bit(s.wire.atn);
+    let ack = ack_bit(s.wire.ack);
+    256
+        * ((target.number as u32)
+            + (connection as u32)
+            + (atn as u32)
+            + (ack as u32)
+            + (own.number as u32) * 256)
 }

@@ -6,7 +6,8 @@ ghost use Rattle.chip.specs.Image.{imageOf};
 ghost use lib.Dec.{eqb};
 ghost use lib.ListN.{length};
 use blocks::Moved;
-use chip::{Answer, Reply};
+use chip::Answer;
+use chip::Reply;
 use state::answers;
 
 // The answer's number in bits 0 to 7, its value from bit 8 up.

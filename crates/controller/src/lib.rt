@@ -38,7 +38,7 @@ pub extern "C" fn am33c93a_fresh(image: &mut [u8]) -> u32
 #[no_mangle]
 pub extern "C" fn am33c93a_pointer(image: &mut [u8], mark: u32, byte: u32) -> u32
     ensures { λ r. ⌜ (r ≡ entered (Calls.pointer mark byte) (now (image .entry)) .result)
-      × (now (image .exit) ≡ entered (Calls.pointer mark byte) (now (image .entry)) .image) ⌝ }
+        × (now (image .exit) ≡ entered (Calls.pointer mark byte) (now (image .entry)) .image) ⌝ }
 {
     if mark < 2 {
         if byte < 256 {
@@ -57,7 +57,7 @@ pub extern "C" fn am33c93a_pointer(image: &mut [u8], mark: u32, byte: u32) -> u3
 #[no_mangle]
 pub extern "C" fn am33c93a_auxiliary(image: &mut [u8]) -> u32
     ensures { λ r. ⌜ (r ≡ entered Calls.auxiliary (now (image .entry)) .result)
-      × (now (image .exit) ≡ entered Calls.auxiliary (now (image .entry)) .image) ⌝ }
+        × (now (image .exit) ≡ entered Calls.auxiliary (now (image .entry)) .image) ⌝ }
 {
     let reading = image::read(image);
     if reading.ok {
@@ -70,7 +70,7 @@ pub extern "C" fn am33c93a_auxiliary(image: &mut [u8]) -> u32
 #[no_mangle]
 pub extern "C" fn am33c93a_register(image: &mut [u8], mark: u32, byte: u32) -> u32
     ensures { λ r. ⌜ (r ≡ entered (Calls.register mark byte) (now (image .entry)) .result)
-      × (now (image .exit) ≡ entered (Calls.register mark byte) (now (image .entry)) .image) ⌝ }
+        × (now (image .exit) ≡ entered (Calls.register mark byte) (now (image .entry)) .image) ⌝ }
 {
     if mark < 2 {
         if byte < 256 {
@@ -89,8 +89,8 @@ pub extern "C" fn am33c93a_register(image: &mut [u8], mark: u32, byte: u32) -> u
 #[no_mangle]
 pub extern "C" fn am33c93a_block(image: &mut [u8], mark: u32, bytes: &mut [u8]) -> u32
     ensures { λ r. ⌜ (r ≡ entered (Calls.block mark (now (bytes .entry))) (now (image .entry)) .result)
-      × (now (image .exit) ≡ entered (Calls.block mark (now (bytes .entry))) (now (image .entry)) .image)
-      × (now (bytes .exit) ≡ entered (Calls.block mark (now (bytes .entry))) (now (image .entry)) .lent) ⌝ }
+        × (now (image .exit) ≡ entered (Calls.block mark (now (bytes .entry))) (now (image .entry)) .image)
+        × (now (bytes .exit) ≡ entered (Calls.block mark (now (bytes .entry))) (now (image .entry)) .lent) ⌝ }
 {
     if mark < 2 {
         let reading = image::read(image);
@@ -109,7 +109,7 @@ pub extern "C" fn am33c93a_block(image: &mut [u8], mark: u32, bytes: &mut [u8]) 
 #[no_mangle]
 pub extern "C" fn am33c93a_time(image: &mut [u8], units: u32) -> u32
     ensures { λ r. ⌜ (r ≡ entered (Calls.time units) (now (image .entry)) .result)
-      × (now (image .exit) ≡ entered (Calls.time units) (now (image .entry)) .image) ⌝ }
+        × (now (image .exit) ≡ entered (Calls.time units) (now (image .entry)) .image) ⌝ }
 {
     if units < 256 {
         let reading = image::read(image);
@@ -125,7 +125,7 @@ pub extern "C" fn am33c93a_time(image: &mut [u8], units: u32) -> u32
 #[no_mangle]
 pub extern "C" fn am33c93a_answer(image: &mut [u8]) -> u32
     ensures { λ r. ⌜ (r ≡ entered Calls.answer (now (image .entry)) .result)
-      × (now (image .exit) ≡ entered Calls.answer (now (image .entry)) .image) ⌝ }
+        × (now (image .exit) ≡ entered Calls.answer (now (image .entry)) .image) ⌝ }
 {
     let reading = image::read(image);
     if reading.ok {
@@ -138,7 +138,7 @@ pub extern "C" fn am33c93a_answer(image: &mut [u8]) -> u32
 #[no_mangle]
 pub extern "C" fn am33c93a_reselection(image: &mut [u8], lines: u32) -> u32
     ensures { λ r. ⌜ (r ≡ entered (Calls.reselection lines) (now (image .entry)) .result)
-      × (now (image .exit) ≡ entered (Calls.reselection lines) (now (image .entry)) .image) ⌝ }
+        × (now (image .exit) ≡ entered (Calls.reselection lines) (now (image .entry)) .image) ⌝ }
 {
     if lines < 256 {
         let reading = image::read(image);
@@ -154,7 +154,7 @@ pub extern "C" fn am33c93a_reselection(image: &mut [u8], lines: u32) -> u32
 #[no_mangle]
 pub extern "C" fn am33c93a_request(image: &mut [u8], phase: u32, byte: u32, parity: u32) -> u32
     ensures { λ r. ⌜ (r ≡ entered (Calls.request phase byte parity) (now (image .entry)) .result)
-      × (now (image .exit) ≡ entered (Calls.request phase byte parity) (now (image .entry)) .image) ⌝ }
+        × (now (image .exit) ≡ entered (Calls.request phase byte parity) (now (image .entry)) .image) ⌝ }
 {
     if phase < 8 {
         if byte < 256 {
@@ -177,7 +177,7 @@ pub extern "C" fn am33c93a_request(image: &mut [u8], phase: u32, byte: u32, pari
 #[no_mangle]
 pub extern "C" fn am33c93a_free(image: &mut [u8]) -> u32
     ensures { λ r. ⌜ (r ≡ entered Calls.free (now (image .entry)) .result)
-      × (now (image .exit) ≡ entered Calls.free (now (image .entry)) .image) ⌝ }
+        × (now (image .exit) ≡ entered Calls.free (now (image .entry)) .image) ⌝ }
 {
     let reading = image::read(image);
     if reading.ok {
@@ -194,7 +194,7 @@ pub extern "C" fn am33c93a_lines(image: &[u8]) -> u32
     let reading = image::read(image);
     if reading.ok {
         let s = reading.state;
-        return 256 * calls::line_bits(s);
+        return calls::line_result(s);
     }
     BAD_NUMBER
 }

@@ -1,6 +1,7 @@
 -- The rows of the table that Requests and a Free make: the step computes what each says.
+--   Seen seen shown    of a state, or a reply: code, what is pending, and what is unread
 --   Raised k t         t shows INT with the code k
---   Ended k w t        an ending with k led to t: raised, or pending where w says that bytes are unread
+--   Ended k w t        an ending with k led to t: raised with nothing unread, or pending where w says that bytes are unread
 --   raised-by ended-by .. of a state that `raise` or `endingWith` made
 --   open-event         an event that INT does not hold back
 --   completes-row saves-row overruns-row surprises-row spoils-row last-row asks-row   Requests
@@ -13,9 +14,9 @@ use borrow.Author.Tests.{not-true, not-false}
 use Rattle.chip.specs.Choice.{pick, both, either}
 use Rattle.chip.specs.Phases.{phaseOf, phaseNumber, comesIn, samePhase, isNoted, isMessageIn, isMessageOut, isCommandOut}
 use Rattle.chip.specs.Lines.{hsp, idi}
-use Rattle.chip.specs.Fifo.{hasRoom}
+use Rattle.chip.specs.Fifo.{isEmpty, hasRoom}
 use Rattle.chip.specs.Count.{noneLeft, isLast, lowered}
-use Rattle.chip.specs.Interrupts.{interrupted, isInterrupt, isEnding, ends, endingWith, raise, unread, isIncoming, unlessInterrupt}
+use Rattle.chip.specs.Interrupts.{interrupted, isInterrupt, isEnding, ends, endingWith, raise, outgoingDropped, withoutOutgoing, closed, unread, isIncoming, unlessInterrupt}
 use Rattle.chip.specs.TransferInfo as I
 use Rattle.chip.specs.SelectAndTransfer as X
 use Rattle.chip.specs.Events as E
@@ -33,13 +34,26 @@ use Rattle.chip.specs.declared.Direction.{Direction}
 use Rattle.chip.specs.declared.Direction.the-variants.{Unfixed, In, Out}
 use Rattle.chip.specs.declared.Phase.{Phase}
 use Rattle.chip.specs.declared.Phase.the-variants.{DataOut, DataIn, CommandOut, StatusIn, UnspecifiedOut, UnspecifiedIn, MessageOut, MessageIn}
+use Rattle.chip.specs.declared.Fifo.{Fifo}
+use Rattle.chip.specs.declared.Pending.{Pending}
 use Rattle.chip.specs.declared.Pending.the-variants.{Nothing, Interrupt, Ending}
-use Rattle.chip.specs.declared.Status.{Status}
 use Rattle.unread.specs.Because as B
 use Rattle.unread.specs.Because.{Quiet, Brings, Offered, LastMessage, isIdle, isOut, isSpent, stage, expects, expectsBody, expectsLate, wants, fits, halts, isBeforeStatus}
 use Rattle.unread.proofs.Choosing.{taken, passed-over, chosen, by-test, clash, both-first, both-second, not-first, second-fails, second-holds, only-second, neither-first, neither-second}
-use Rattle.unread.proofs.Bus.{remembered-status, info-wants, info-spent, by-stage, pushed}
+use Rattle.unread.proofs.Bus.{remembered-keeps, info-wants, info-spent, by-stage, pushed}
 use Rattle.unread.proofs.Told.{good-step}
+
+pub record Seen : Type 0 where
+  pub code : ℕ
+  pub pending : Pending
+  pub direction : Direction
+  pub fifo : Fifo
+
+abbrev pub seen : State → Seen
+seen t = record { code = t .status .code; pending = t .status .pending; direction = t .transfer .direction; fifo = t .fifo }
+
+abbrev pub shown : Reply → Seen
+shown r = seen (r .state)
 
 pub record Raised (k : ℕ) (t : State) : Type 0 where
   pub code : t .status .code ≡ k
@@ -47,19 +61,36 @@ pub record Raised (k : ℕ) (t : State) : Type 0 where
 
 pub record Ended (k : ℕ) (w : Bool) (t : State) : Type 0 where
   pub raised-now : w ≡ false → Raised k t
+  pub all-read : w ≡ false → unread t ≡ false
   pub read-first : w ≡ true → t .status .pending ≡ Ending k
 
-pub raised-by : {k : ℕ} {t : State} (u : State) → t .status ≡ raise k u .status → Raised k t
+pub raised-by : {k : ℕ} {t : State} (u : State) → seen t ≡ seen (raise k u) → Raised k t
 unfolding raise
-raised-by u e = record { code = ap (λ (x : Status). x .code) e; int = ap (λ (x : Status). x .pending) e }
+raised-by u e = record { code = ap (λ (x : Seen). x .code) e; int = ap (λ (x : Seen). x .pending) e }
 
-pub ended-by : {k : ℕ} {w : Bool} {t : State} (u : State) → t .status ≡ endingWith k u .status → unread u ≡ w → Ended k w t
+unread-seen : (s t : State) → seen s ≡ seen t → unread s ≡ unread t
+unfolding unread
+unread-seen s t e = ap (λ (x : Seen). both (isIncoming (x .direction)) (not (isEmpty (x .fifo)))) e
+
+-- an outgoing FIFO that is dropped was never unread
+raise-unread : (k : ℕ) (u : State) → unread (raise k u) ≡ unread u
+unfolding unread raise outgoingDropped both
+raise-unread k u = by-way (u .transfer .direction)
+  where
+    by-way : (d : Direction)
+        → both (isIncoming (closed d)) (not (isEmpty (withoutOutgoing d (u .fifo)))) ≡ both (isIncoming d) (not (isEmpty (u .fifo)))
+    by-way Unfixed = refl
+    by-way In = refl
+    by-way Out = refl
+
+pub ended-by : {k : ℕ} {w : Bool} {t : State} (u : State) → seen t ≡ seen (endingWith k u) → unread u ≡ w → Ended k w t
 unfolding endingWith pick
-ended-by u e f =
-    record { raised-now = λ h. raised-by u (rw (f, h) at e); read-first = λ h. ap (λ (x : Status). x .pending) (rw (f, h) at e) }
-
-abbrev status : Reply → Status
-status r = r .state .status
+ended-by {k} {t = t} u e f =
+    record {
+      raised-now = λ h. raised-by u (rw (f, h) at e);
+      all-read = λ h. unread-seen t (raise k u) (rw (f, h) at e) ∙ raise-unread k u ∙ f ∙ h;
+      read-first = λ h. ap (λ (x : Seen). x .pending) (rw (f, h) at e);
+    }
 
 -- an event that nothing holds back
 pub open-event : (s : State) (r : Reply) → Quiet s → unlessInterrupt s r ≡ r
@@ -96,22 +127,22 @@ informs TransferInfo i t = refl
 
 module _ (n b m : ℕ) (s : State) where
   pub reaches : {p : Phase} → Offered n b m p s
-    → step (request n b m) s .state .status ≡ E.servedBy (s .transfer .running) p b (isSet m) s .state .status
+      → seen (step (request n b m) s .state) ≡ shown (E.servedBy (s .transfer .running) p b (isSet m) s)
   unfolding carried E.requested E.requestedConnected
   reaches o =
-      ap (λ (x : Outcome). x .state .status) (good-step (request n b m) s (o .good)) ∙ remembered-status (phaseOf n) _
-      ∙ ap (λ (r : Reply). r .state .status)
-        (ap₂ (λ (x : Connection) (q : Phase). E.requestedBy x q b (isSet m) s) (o .connected) (o .phase)
-        ∙ passed-over _ _ (ap isEnding (o .quiet)) ∙ passed-over _ _ (o .released))
+      ap (λ (x : Outcome). seen (x .state)) (good-step (request n b m) s (o .good)) ∙ remembered-keeps seen (λ x t. refl) (phaseOf n) _
+      ∙ ap shown
+      (ap₂ (λ (x : Connection) (q : Phase). E.requestedBy x q b (isSet m) s) (o .connected) (o .phase)
+      ∙ passed-over _ _ (ap isEnding (o .quiet)) ∙ passed-over _ _ (o .released))
 
   -- a Select-And-Transfer serves by its stage
   serves : (p : Phase) → isTransfer (s .transfer .running) ≡ true
-    → E.servedBy (s .transfer .running) p b (isSet m) s ≡ X.requestAt (stage s) p b (isSet m) s
+      → E.servedBy (s .transfer .running) p b (isSet m) s ≡ X.requestAt (stage s) p b (isSet m) s
   unfolding X.transferRequest stage
   serves p e = by-running (s .transfer .running) e
     where
       by-running : (r : Running) → isTransfer r ≡ true
-        → E.servedBy r p b (isSet m) s ≡ X.requestAt (X.stageOf (E.setsAtn r) (s .registers .phase) (X.size s)) p b (isSet m) s
+          → E.servedBy r p b (isSet m) s ≡ X.requestAt (X.stageOf (E.setsAtn r) (s .registers .phase) (X.size s)) p b (isSet m) s
       by-running Idle e = clash e refl
       by-running SelectWithAtn e = clash e refl
       by-running SelectWithoutAtn e = clash e refl
@@ -133,14 +164,14 @@ module _ (n b m : ℕ) (s : State) where
   turned-surprises p = chosen (λ (r : Reply). r ≡ X.unexpected p s) (noneLeft s) refl refl
 
   out-surprises : (d : Direction) → both (not (noneLeft s)) (not (isIncoming d)) ≡ false
-    → X.unlessNoneLeft DataOut s (X.dataOut d s) ≡ X.unexpected DataOut s
+      → X.unlessNoneLeft DataOut s (X.dataOut d s) ≡ X.unexpected DataOut s
   unfolding X.dataOut
   out-surprises Unfixed e = spent-surprises DataOut _ e
   out-surprises In e = turned-surprises DataOut
   out-surprises Out e = spent-surprises DataOut _ e
 
   in-surprises : (d : Direction) → both (not (noneLeft s)) (not (isOut d)) ≡ false
-    → X.unlessNoneLeft DataIn s (X.dataIn d b (isSet m) s) ≡ X.unexpected DataIn s
+      → X.unlessNoneLeft DataIn s (X.dataIn d b (isSet m) s) ≡ X.unexpected DataIn s
   unfolding X.dataIn
   in-surprises Unfixed e = spent-surprises DataIn _ e
   in-surprises In e = spent-surprises DataIn _ e
@@ -196,14 +227,14 @@ module _ (n b m : ℕ) (s : State) where
     take-halts r = taken _ _ r ∙ halted _
 
     in-halts : (d : Direction) → both (not (noneLeft s)) (not (isOut d)) ≡ true → hasRoom (s .fifo) ≡ true
-      → X.unlessNoneLeft DataIn s (X.dataIn d b (isSet m) s) ≡ I.halted s
+        → X.unlessNoneLeft DataIn s (X.dataIn d b (isSet m) s) ≡ I.halted s
     unfolding X.unlessNoneLeft X.dataIn
     in-halts Unfixed e r = passed-over _ _ (not-true _ (both-first _ _ e)) ∙ take-halts r
     in-halts In e r = passed-over _ _ (not-true _ (both-first _ _ e)) ∙ take-halts r
     in-halts Out e r = clash (both-second (not (noneLeft s)) _ e) refl
 
     body-halts : (p : Phase) → expectsBody p b s ≡ true → comesIn p ≡ true → (samePhase p DataIn ≡ true → hasRoom (s .fifo) ≡ true)
-      → X.bodyRequest p b (isSet m) s ≡ I.halted s
+        → X.bodyRequest p b (isSet m) s ≡ I.halted s
     unfolding X.bodyRequest X.takeStatus expectsBody
     body-halts DataOut e c f = clash c refl
     body-halts DataIn e c f = in-halts (s .transfer .direction) e (f refl)
@@ -226,7 +257,7 @@ module _ (n b m : ℕ) (s : State) where
     late-halts MessageIn e = message-halts e
 
     stage-halts : (g : Stage) (p : Phase) → expects g p b s ≡ true → comesIn p ≡ true → (samePhase p DataIn ≡ true → hasRoom (s .fifo) ≡ true)
-      → X.requestAt g p b (isSet m) s ≡ I.halted s
+        → X.requestAt g p b (isSet m) s ≡ I.halted s
     unfolding X.requestAt X.takeIdentify X.takeComplete X.completed expects
     stage-halts SendIdentify p e c f = clash c (message-goes-out p e)
     stage-halts (SendCommand x) p e c f = clash c (command-goes-out p e)
@@ -244,15 +275,15 @@ module _ (n b m : ℕ) (s : State) where
   unless-sound r h = passed-over _ _ h
 
   transfer-reaches : {p : Phase} {r : Reply} → Offered n b m p s → isTransfer (s .transfer .running) ≡ true
-    → X.requestAt (stage s) p b (isSet m) s ≡ r → step (request n b m) s .state .status ≡ r .state .status
-  transfer-reaches {p} o t e = reaches o ∙ ap status (serves p t ∙ e)
+      → X.requestAt (stage s) p b (isSet m) s ≡ r → seen (step (request n b m) s .state) ≡ shown r
+  transfer-reaches {p} o t e = reaches o ∙ ap shown (serves p t ∙ e)
 
   info-reaches : {p : Phase} {r : Reply} → Offered n b m p s → s .transfer .running ≡ TransferInfo
-    → I.infoRequest p b (isSet m) s ≡ r → step (request n b m) s .state .status ≡ r .state .status
-  info-reaches {p} o t e = reaches o ∙ ap status (ap (λ (r : Running). E.servedBy r p b (isSet m) s) t ∙ e)
+      → I.infoRequest p b (isSet m) s ≡ r → seen (step (request n b m) s .state) ≡ shown r
+  info-reaches {p} o t e = reaches o ∙ ap shown (ap (λ (r : Running). E.servedBy r p b (isSet m) s) t ∙ e)
 
   pub completes-row : Offered n b m MessageIn s → isTransfer (s .transfer .running) ≡ true → stage s ≡ AfterStatus → eqb b 0x00 ≡ true
-    → halts m s ≡ false → Ended 0x16 (unread s) (step (request n b m) s .state)
+      → halts m s ≡ false → Ended 0x16 (unread s) (step (request n b m) s .state)
   unfolding X.requestAt X.takeComplete X.completed I.parityNoted unread both
   completes-row o t at e h =
       ended-by _
@@ -272,7 +303,7 @@ module _ (n b m : ℕ) (s : State) where
   before-status Elsewhere e = clash e refl
 
   pub saves-row : Offered n b m MessageIn s → isTransfer (s .transfer .running) ≡ true → isBeforeStatus (stage s) ≡ true → eqb b 0x02 ≡ true
-    → halts m s ≡ false → Ended 0x21 (unread s) (step (request n b m) s .state)
+      → halts m s ≡ false → Ended 0x21 (unread s) (step (request n b m) s .state)
   unfolding X.takeMessage X.takeSave I.parityNoted unread
   saves-row o t g e h =
       ended-by _
@@ -280,13 +311,13 @@ module _ (n b m : ℕ) (s : State) where
       refl
 
   over-row : {p : Phase} → Offered n b m p s → s .transfer .running ≡ TransferInfo → wants p b s ≡ false
-    → Ended (I.overCode p s) (unread s) (step (request n b m) s .state)
+      → Ended (I.overCode p s) (unread s) (step (request n b m) s .state)
   unfolding I.infoRequest I.infoOver unread
   over-row {p} o t w =
       ended-by _ (info-reaches o t (passed-over _ _ (rw (← (info-wants n b m s t p)) w) ∙ open-event s _ (o .quiet))) refl
 
   pub overruns-row : {p : Phase} → Offered n b m p s → isIdle (s .transfer .running) ≡ false → isSpent s ≡ true
-    → Ended (0x18 + phaseNumber p) (unread s) (step (request n b m) s .state)
+      → Ended (0x18 + phaseNumber p) (unread s) (step (request n b m) s .state)
   unfolding isSpent I.overCode pick
   overruns-row {p} o r e =
       let t : s .transfer .running ≡ TransferInfo = informs _ r (not-true _ (both-first _ _ e)) in
@@ -294,30 +325,30 @@ module _ (n b m : ℕ) (s : State) where
       rw l at (over-row o t (info-wants n b m s t p ∙ second-fails _ _ (rw l)))
 
   pub surprises-row : {p : Phase} → Offered n b m p s → isIdle (s .transfer .running) ≡ false → wants p b s ≡ false → isSpent s ≡ false
-    → Ended (0x48 + phaseNumber p) (unread s) (step (request n b m) s .state)
+      → Ended (0x48 + phaseNumber p) (unread s) (step (request n b m) s .state)
   unfolding X.unexpected I.overCode unread pick
   surprises-row {p} o r w e =
       by-test (isTransfer (s .transfer .running))
       (λ t. ended-by _
-          (transfer-reaches o t
-          (stage-surprises (stage s) p (rw (← (by-stage n b m s t (stage s) refl p)) w) ∙ open-event s _ (o .quiet)))
-          refl)
+      (transfer-reaches o t
+      (stage-surprises (stage s) p (rw (← (by-stage n b m s t (stage s) refl p)) w) ∙ open-event s _ (o .quiet)))
+      refl)
       (λ t. let i : s .transfer .running ≡ TransferInfo = informs _ r t in rw (← (info-spent n b m s i), e) at (over-row o i w))
 
   pub spoils-row : {p : Phase} → Offered n b m p s → isIdle (s .transfer .running) ≡ false → wants p b s ≡ true → comesIn p ≡ true
-    → fits p s ≡ true → halts m s ≡ true → Ended 0x43 (unread s) (step (request n b m) s .state)
+      → fits p s ≡ true → halts m s ≡ true → Ended 0x43 (unread s) (step (request n b m) s .state)
   unfolding I.infoRequest I.infoIn I.halted unread fits both
   spoils-row {p} o r w c f h =
       by-test (isTransfer (s .transfer .running))
       (λ t. ended-by _
-          (transfer-reaches o t
-          (stage-halts h (stage s) p (rw (← (by-stage n b m s t (stage s) refl p)) w) c (λ d. room (rw (t, d))) ∙ open-event s _ (o .quiet)))
-          refl)
+      (transfer-reaches o t
+      (stage-halts h (stage s) p (rw (← (by-stage n b m s t (stage s) refl p)) w) c (λ d. room (rw (t, d))) ∙ open-event s _ (o .quiet)))
+      refl)
       (λ t. let i : s .transfer .running ≡ TransferInfo = informs _ r t in
-          ended-by _
-          (info-reaches o i
-          (taken _ _ (rw (← (info-wants n b m s i p)) w) ∙ taken _ _ c ∙ taken _ _ (room (rw t)) ∙ halted h _ ∙ open-event s _ (o .quiet)))
-          refl)
+      ended-by _
+      (info-reaches o i
+      (taken _ _ (rw (← (info-wants n b m s i p)) w) ∙ taken _ _ c ∙ taken _ _ (room (rw t)) ∙ halted h _ ∙ open-event s _ (o .quiet)))
+      refl)
     where
       room : both (isTransfer (s .transfer .running)) (not (samePhase p DataIn)) ≡ false → hasRoom (s .fifo) ≡ true
       room e = only-second _ _ f e
@@ -333,10 +364,10 @@ module _ (n b m : ℕ) (s : State) where
       (second-holds _ _ (rw (pushed b (s .fifo) (l .room))))
 
   pub asks-row : {p : Phase} → Offered n b m p s → isIdle (s .transfer .running) ≡ true → isNoted p (s .wire .reported) ≡ false
-    → Raised (0x88 + phaseNumber p) (step (request n b m) s .state)
+      → Raised (0x88 + phaseNumber p) (step (request n b m) s .state)
   unfolding E.idleRequest
   asks-row {p} o e f =
-      raised-by _ (reaches o ∙ ap status (by-running (s .transfer .running) e ∙ passed-over _ _ f ∙ open-event s _ (o .quiet)))
+      raised-by _ (reaches o ∙ ap shown (by-running (s .transfer .running) e ∙ passed-over _ _ f ∙ open-event s _ (o .quiet)))
     where
       by-running : (r : Running) → isIdle r ≡ true → E.servedBy r p b (isSet m) s ≡ E.idleRequest p s
       by-running Idle e = refl
@@ -349,11 +380,11 @@ module _ (n b m : ℕ) (s : State) where
 -- the rows of a Free
 
 module _ (s : State) (q : Quiet s) (x : s .wire .connection ≡ Connected) where
-  free-reaches : {r : Reply} → E.freedFrom (s .transfer .running) s ≡ r → step free s .state .status ≡ r .state .status
+  free-reaches : {r : Reply} → E.freedFrom (s .transfer .running) s ≡ r → seen (step free s .state) ≡ shown r
   unfolding carried E.freed
   free-reaches e =
-      ap (λ (o : Outcome). o .state .status) (good-step free s is-good)
-      ∙ ap status (ap (λ (c : Connection). E.freedBy c s) x ∙ passed-over _ _ (ap isEnding q) ∙ e)
+      ap (λ (o : Outcome). seen (o .state)) (good-step free s is-good)
+      ∙ ap shown (ap (λ (c : Connection). E.freedBy c s) x ∙ passed-over _ _ (ap isEnding q) ∙ e)
     where
       is-good : isGood free ≡ true
       is-good = unfold isGood in refl
@@ -375,12 +406,12 @@ module _ (s : State) (q : Quiet s) (x : s .wire .connection ≡ Connected) where
       by-running TransferInfo e = clash e refl
 
   pub cuts-transfer-row : isTransfer (s .transfer .running) ≡ true → eqb (s .registers .phase) 0x42 ≡ false
-    → Ended 0x41 (unread s) (step free s .state)
+      → Ended 0x41 (unread s) (step free s .state)
   unfolding X.transferFree E.busFree unread
   cuts-transfer-row t e = ended-by _ (free-reaches (transfer-freed t ∙ passed-over _ _ e ∙ open-event s _ q)) refl
 
   pub leaves-transfer-row : isTransfer (s .transfer .running) ≡ true → eqb (s .registers .phase) 0x42 ≡ true → idi s ≡ true
-    → Ended 0x85 (unread s) (step free s .state)
+      → Ended 0x85 (unread s) (step free s .state)
   unfolding X.transferFree X.freeAfterDisconnect E.busFree unread
   leaves-transfer-row t e d =
       ended-by _ (free-reaches (transfer-freed t ∙ taken _ _ e ∙ taken _ _ d ∙ open-event s _ q)) refl

@@ -2,7 +2,7 @@
 --   passed-tells answered-tells reselected-tells requested-tells freed-tells   one event each
 --   info-wants info-spent   what a running Transfer Info wants, and when it is spent
 --   by-stage                what a running Select-And-Transfer wants
---   remembered-status       to keep the last phase in mind changes no status
+--   remembered-keeps        to keep the last phase in mind changes nothing else
 --   pushed                  a FIFO that took a byte is not empty
 use mathlib.Core.Path.{_≡_, refl, sym, ap, _∙_}
 use mathlib.Core.Bool.{Bool, true, false, not}
@@ -15,7 +15,7 @@ use Rattle.chip.specs.Phases.{phaseOf, phaseNumber, comesIn, samePhase, isNoted
 use Rattle.chip.specs.Lines.{hsp, idi, identify, lunOf, qualifies}
 use Rattle.chip.specs.Fifo.{isEmpty, hasRoom, push}
 use Rattle.chip.specs.Count.{noneLeft, isLast, lowered}
-use Rattle.chip.specs.State.{setFifo}
+use Rattle.chip.specs.State.{setLast}
 use Rattle.chip.specs.Interrupts.{interrupted, ends, endingWith, raise, outgoingDropped, unread, isIncoming, unlessInterrupt}
 use Rattle.chip.specs.TransferInfo as I
 use Rattle.chip.specs.SelectAndTransfer as X
@@ -36,6 +36,7 @@ use Rattle.chip.specs.declared.Stage.{Stage}
 use Rattle.chip.specs.declared.Stage.the-variants.{SendIdentify, SendCommand, Body, AfterData, Disconnecting, Reselected, AfterStatus, Elsewhere}
 use Rattle.chip.specs.declared.Direction.{Direction}
 use Rattle.chip.specs.declared.Direction.the-variants.{Unfixed, In, Out}
+use Rattle.chip.specs.declared.Noted.{Noted}
 use Rattle.chip.specs.declared.Phase.{Phase}
 use Rattle.chip.specs.declared.Phase.the-variants.{DataOut, DataIn, CommandOut, StatusIn, UnspecifiedOut, UnspecifiedIn, MessageOut, MessageIn}
 use Rattle.unread.specs.Because as B
@@ -51,6 +52,7 @@ passed-tells n s good = chosen-if Says _ (λ e. silent) (λ e. by-connection e (
   where
     Says : Reply → Type 0
     Says r = ToldReply (time n) s r
+
     by-connection : ends s ≡ false → (x : Connection) → s .wire .connection ≡ x → Says (E.passedBy x n s)
     by-connection e Disconnected f = silent
     by-connection e Selecting f =
@@ -66,6 +68,7 @@ answered-tells s = by-connection (s .wire .connection) refl
   where
     Says : Reply → Type 0
     Says r = ToldReply answer s r
+
     by-connection : (x : Connection) → s .wire .connection ≡ x → Says (E.answeredBy x s)
     by-connection Disconnected f = silent
     by-connection Selecting f =
@@ -80,9 +83,11 @@ reselected-tells lines s good = chosen-if Says _ (λ q. by-connection q (s .wire
   where
     Says : Reply → Type 0
     Says r = ToldReply (reselection lines) s r
+
     loud : ends s ≡ false → qualifies lines s ≡ true → isConnected (s .wire .connection) ≡ false
-      → both (isWaiting (s .wire .connection)) (E.namesTarget lines s) ≡ false → Says (E.reselectedLoud lines s)
+        → both (isWaiting (s .wire .connection)) (E.namesTarget lines s) ≡ false → Says (E.reselectedLoud lines s)
     loud e q x w = unless-int _ (λ i. raises i (B.reselects good (quiet-of _ i e) q x w))
+
     by-connection : qualifies lines s ≡ true → (x : Connection) → s .wire .connection ≡ x → Says (E.reselectedBy x lines s)
     by-connection q Disconnected f = chosen-if Says _ (λ e. silent) (λ e. loud e q (rw f) (rw f))
     by-connection q Selecting f = chosen-if Says _ (λ e. silent) (λ e. loud e q (rw f) (rw f))
@@ -106,13 +111,14 @@ pub pushed : (b : ℕ) (q : Fifo) → hasRoom q ≡ true → isEmpty (push b q) 
 unfolding push pick isEmpty
 pushed b q r = rw r (ne-eqb (q .held + 1) 0 (λ e. omega arith))
 
--- the phase of the last Request is no status
-pub remembered-status : (p : Phase) (r : Reply) → E.remembered p r .state .status ≡ r .state .status
+-- to keep the phase of the last Request in mind changes nothing else
+pub remembered-keeps : {A : Type 0} (g : State → A) → ((x : Noted) (t : State) → g (setLast x t) ≡ g t) → (p : Phase) (r : Reply)
+    → g (E.remembered p r .state) ≡ g (r .state)
 unfolding E.remembered
-remembered-status p r = by-answer (r .answer)
+remembered-keeps g k p r = by-answer (r .answer)
   where
-    by-answer : (a : Answer) → E.rememberedBy a p r .state .status ≡ r .state .status
-    by-answer (Done v) = refl
+    by-answer : (a : Answer) → g (E.rememberedBy a p r .state) ≡ g (r .state)
+    by-answer (Done v) = k _ _
     by-answer Held = refl
     by-answer OutOfPlace = refl
     by-answer BadNumber = refl
@@ -120,7 +126,7 @@ remembered-status p r = by-answer (r .answer)
     by-answer CommandIgnored = refl
     by-answer ReselectionIgnored = refl
     by-answer NoDataNow = refl
-    by-answer Reported = refl
+    by-answer Reported = k _ _
 
 module _ (n b m : ℕ) (s : State) where
   abbrev Says : Reply → Type 0
@@ -136,7 +142,7 @@ module _ (n b m : ℕ) (s : State) where
     unexpected-tells p o w f = unless-int _ (λ i. brought _ refl refl (o i .quiet) (B.surprises (o i) runs w f))
 
     unless-halted : (p : Phase) (r : Reply) → Comes p → wants p b s ≡ true → comesIn p ≡ true → fits p s ≡ true
-      → (halts m s ≡ false → Says r) → Says (I.unlessHalted (isSet m) s r)
+        → (halts m s ≡ false → Says r) → Says (I.unlessHalted (isSet m) s r)
     unfolding I.unlessHalted I.halted halts unread
     unless-halted p r o w c f k =
         chosen-if Says _ (λ h. unless-int _ (λ i. brought _ refl refl (o i .quiet) (B.spoils (o i) runs w c f h))) k
@@ -156,7 +162,7 @@ module _ (n b m : ℕ) (s : State) where
     info-spent = rw runs
 
     over-brings : (p : Phase) → Offered n b m p s → both (isNoted p (s .wire .reported)) (not (noneLeft s)) ≡ false
-      → Brings (request n b m) s (I.overCode p s)
+        → Brings (request n b m) s (I.overCode p s)
     unfolding I.overCode pick
     over-brings p o w =
         by-test (noneLeft s) (λ e. rw e (B.overruns o (rw runs) (rw (info-spent, e))))
@@ -175,8 +181,8 @@ module _ (n b m : ℕ) (s : State) where
     taken-tells p o w r h =
         chosen-if Says _
         (λ l. unless-int _
-            (λ i. ended _ refl (o i .quiet) (λ u. B.keeps-last (last-message l i) (both-first _ _ u))
-                (λ u. B.takes-last (last-message l i) (not-first _ _ u (rw (pushed b (s .fifo) r))))))
+        (λ i. ended _ refl (o i .quiet) (λ u. B.keeps-last (last-message l i) (both-first _ _ u))
+        (λ u. B.takes-last (last-message l i) (not-first _ _ u (rw (pushed b (s .fifo) r))))))
         (λ l. silent)
       where
         last-message : both (isMessageIn p) (isLast s) ≡ true → interrupted s ≡ false → LastMessage n b m s
@@ -189,10 +195,10 @@ module _ (n b m : ℕ) (s : State) where
     info-tells p o =
         chosen-if Says _
         (λ w. chosen-if Says _
-            (λ c. chosen-if Says _
-                (λ r. unless-halted (rw runs) p _ o (rw (info-wants p, w)) c (info-fits p r) (taken-tells p o (rw (info-wants p, w)) r))
-                (λ r. silent))
-            (λ c. info-out-tells p))
+        (λ c. chosen-if Says _
+        (λ r. unless-halted (rw runs) p _ o (rw (info-wants p, w)) c (info-fits p r) (taken-tells p o (rw (info-wants p, w)) r))
+        (λ r. silent))
+        (λ c. info-out-tells p))
         (over-tells p o)
 
   -- to a Select-And-Transfer, at the stage g
@@ -217,7 +223,7 @@ module _ (n b m : ℕ) (s : State) where
     surprised p o e = unexpected-tells combines p o (rw (by-stage p, e)) (rw runs)
 
     taken-unless : (p : Phase) (r : Reply) → Comes p → expects g p b s ≡ true → comesIn p ≡ true → fits p s ≡ true
-      → (halts m s ≡ false → Says r) → Says (I.unlessHalted (isSet m) s r)
+        → (halts m s ≡ false → Says r) → Says (I.unlessHalted (isSet m) s r)
     taken-unless p r o e c f k = unless-halted combines p r o (rw (by-stage p, e)) c f k
 
     -- what is not data needs no room
@@ -230,12 +236,12 @@ module _ (n b m : ℕ) (s : State) where
     status-tells o e = taken-unless StatusIn _ o e refl (no-room StatusIn refl) (λ h. silent)
 
     message-tells : Comes MessageIn → isBeforeStatus g ≡ true → expects g MessageIn b s ≡ either (eqb b 0x02) (eqb b 0x04)
-      → Says (X.takeMessage b (isSet m) s)
+        → Says (X.takeMessage b (isSet m) s)
     unfolding X.takeMessage X.takeSave X.takeDisconnect I.parityNoted unread either
     message-tells o early e =
         chosen-if Says _
         (λ x. taken-unless MessageIn _ o (rw (e, x)) refl (no-room MessageIn refl)
-            (λ h. unless-int _ (λ i. brought _ refl refl (o i .quiet) (B.saves (o i) runs (rw (at, early)) x h))))
+        (λ h. unless-int _ (λ i. brought _ refl refl (o i .quiet) (B.saves (o i) runs (rw (at, early)) x h))))
         (λ x. chosen-if Says _ (λ y. taken-unless MessageIn _ o (rw (e, x, y)) refl (no-room MessageIn refl) (λ h. silent))
         (λ y. surprised MessageIn o (rw (e, x, y))))
 
@@ -284,12 +290,12 @@ module _ (n b m : ℕ) (s : State) where
     late-tells at MessageIn o = message-tells runs AfterData at o refl refl
 
     message-taken : (g : Stage) → stage s ≡ g → (p : Phase) (r : Reply) → Comes p → expects g p b s ≡ true → isMessageIn p ≡ true
-      → (halts m s ≡ false → Says r) → Says (I.unlessHalted (isSet m) s r)
+        → (halts m s ≡ false → Says r) → Says (I.unlessHalted (isSet m) s r)
     message-taken g at p r o e x k =
         taken-unless runs g at p r o e (rw (is-message-in p x)) (no-room runs g at p (rw (is-message-in p x))) k
 
     completes : stage s ≡ AfterStatus → (p : Phase) → Offered n b m p s → both (isMessageIn p) (eqb b 0x00) ≡ true → halts m s ≡ false
-      → Brings (request n b m) s 0x16
+        → Brings (request n b m) s 0x16
     completes at p o e h =
         B.completes (rw (is-message-in p (both-first _ _ e)) at o) runs at (both-second (isMessageIn p) _ e) h
 
@@ -305,7 +311,7 @@ module _ (n b m : ℕ) (s : State) where
     at-stage AfterStatus at p o =
         chosen-if Says _
         (λ e. message-taken AfterStatus at p _ o e (both-first _ _ e)
-            (λ h. unless-int _ (λ i. brought _ refl refl (o i .quiet) (completes at p (o i) e h))))
+        (λ h. unless-int _ (λ i. brought _ refl refl (o i .quiet) (completes at p (o i) e h))))
         (surprised runs AfterStatus at p o)
     at-stage Elsewhere at p o = surprised runs Elsewhere at p o refl
 
@@ -329,11 +335,11 @@ module _ (n b m : ℕ) (s : State) where
       chosen-if Says _ (λ e. silent)
       (λ e. chosen-if Says _ (λ a. silent)
       (λ a. served-tells (phaseOf n)
-          (λ i. record { good = good; phase = refl; quiet = quiet-of _ i e; connected = x; released = a }) _ refl))
+      (λ i. record { good = good; phase = refl; quiet = quiet-of _ i e; connected = x; released = a }) _ refl))
 
   pub requested-tells : isGood (request n b m) ≡ true → Says (E.requested (phaseOf n) b (isSet m) s)
   unfolding E.requested
-  requested-tells good = rw (remembered-status (phaseOf n) _) (by-connection (s .wire .connection) refl)
+  requested-tells good = rw (remembered-keeps (λ (t : State). t .status) (λ x t. refl) (phaseOf n) _) (by-connection (s .wire .connection) refl)
     where
       by-connection : (x : Connection) → s .wire .connection ≡ x → Says (E.requestedBy x (phaseOf n) b (isSet m) s)
       by-connection Disconnected x = silent
@@ -365,7 +371,7 @@ module _ (s : State) where
     transfer-free-tells r =
         chosen-if Leaves _
         (λ e. chosen-if Leaves _ (λ d. unless-int _ (λ i. brought _ refl refl (q i) (B.leaves-transfer (q i) x r e d)))
-            (λ d. chosen Leaves _ (unless-int _ (λ i. settles i refl)) silent))
+        (λ d. chosen Leaves _ (unless-int _ (λ i. settles i refl)) silent))
         (λ e. unless-int _ (λ i. brought _ refl refl (q i) (B.cuts-transfer (q i) x r e)))
 
     freed-from : (r : Running) → s .transfer .running ≡ r → Leaves (E.freedFrom r s)

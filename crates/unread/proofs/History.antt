@@ -30,28 +30,28 @@ data Follows (s t : State) : List Happening → Type 0 where
   raise : interrupted s ≡ false → interrupted t ≡ true → Follows s t (H.raises (t .status .code) ∷ [])
   told-code : t .status .code ≡ s .status .code → interrupted t ≡ false → Follows s t (H.reads (s .status .code) ∷ [])
 
-plain-int : (q : Pending) → isPlain q ≡ true → isInterrupt q ≡ false
+pub plain-int : (q : Pending) → isPlain q ≡ true → isInterrupt q ≡ false
 plain-int Nothing e = refl
 plain-int Interrupt e = clash e refl
 plain-int (Ending k) e = refl
 plain-int ReadOut e = refl
 
-cleared-int : (q : Pending) → isInterrupt (withoutInterrupt q) ≡ false
+pub cleared-int : (q : Pending) → isInterrupt (withoutInterrupt q) ≡ false
 cleared-int Nothing = refl
 cleared-int Interrupt = refl
 cleared-int (Ending k) = refl
 cleared-int ReadOut = refl
 
 -- a code raised other than by Reset was raised with no INT before
-raised-from-quiet : (c : Call) (s : State) → isReset c s ≡ false → raised c s (step c s .state) ≡ true → interrupted s ≡ false
+pub raised-from-quiet : (c : Call) (s : State) → isReset c s ≡ false → raised c s (step c s .state) ≡ true → interrupted s ≡ false
 unfolding raised both either
 raised-from-quiet c s r e =
     by-test (interrupted s)
     (λ i. let k : eqb (step c s .state .status .code) (s .status .code) ≡ true = eq-eqb _ _ (unread-status-kept .code-kept c s i r) in
-        clash (both-second (interrupted (step c s .state)) _ (rw (i, k, r) at e)) refl)
+    clash (both-second (interrupted (step c s .state)) _ (rw (i, k, r) at e)) refl)
     (λ i. i)
 
-raised-sets-int : (c : Call) (s t : State) → raised c s t ≡ true → interrupted t ≡ true
+pub raised-sets-int : (c : Call) (s t : State) → raised c s t ≡ true → interrupted t ≡ true
 unfolding raised
 raised-sets-int c s t e = both-first _ _ e
 
@@ -74,9 +74,9 @@ unfolding noted
 follows c s =
     chosen-if (Follows s (step c s .state)) _ (λ r. reset (reset-told c s r .0) (rw (reset-told c s r .1)))
     (λ r. chosen-if (Follows s (step c s .state)) _
-        (λ e. raise (raised-from-quiet c s r e) (raised-sets-int c s _ e))
-        (λ n. chosen-if (Follows s (step c s .state)) _ (λ d. read-follows (status-read c s d))
-            (λ d. let u = untouched (told c s) r d (λ j i. clash (raised-anew c s _ i j) n) in still (u .0) (u .1))))
+    (λ e. raise (raised-from-quiet c s r e) (raised-sets-int c s _ e))
+    (λ n. chosen-if (Follows s (step c s .state)) _ (λ d. read-follows (status-read c s d))
+    (λ d. let u = untouched (told c s) r d (λ j i. clash (raised-anew c s _ i j) n) in still (u .0) (u .1))))
 
 -- an orderly history, with what one call did before it
 preceded : {s t : State} {h l : List Happening} → Follows s t h → Orderly (t .status .code) (interrupted t) l
@@ -140,8 +140,8 @@ no-status-lost =
       int-is-unread = int-unread;
       orderly = in-order;
       read-between = λ l s g h j x k e r.
-        let o : Orderly (s .status .code) (interrupted s) (g ++ (x ∷ (h ++ (H.raises k ∷ j)))) = rw e at (in-order l s) in
-        read-before k j h (after-raising x r (later g _ o .2) .1);
+          let o : Orderly (s .status .code) (interrupted s) (g ++ (x ∷ (h ++ (H.raises k ∷ j)))) = rw e at (in-order l s) in
+          read-before k j h (after-raising x r (later g _ o .2) .1);
     }
 
 -- from a fresh state, in the words of the chip's `after`

@@ -4,7 +4,7 @@
 --   block-tells block-written-tells   a block
 --   Drains            what some reads of the Data register leave: nothing new, or the end of a read-out
 --   block-drains      .. of a block
---   some-wait none-wait one-less      how many bytes wait
+--   some-wait none-wait holds-some one-less   how many bytes wait
 use mathlib.Core.Path.{_≡_, refl, sym, ap, _∙_}
 use mathlib.Core.Bool.{Bool, true, false, not}
 use mathlib.Core.List.{List, [], _∷_}
@@ -12,7 +12,7 @@ use Prim.Native.Nat.{ℕ, suc, _+_, _-_, _<_, _≤_}
 use native.Mathlib.Omega.{arith}
 use lib.Dec.{eqb, ltb, leb}
 use lib.ListN.{length}
-use borrow.Author.Tests.{eqb-true, eqb-false, eq-eqb, not-true, not-false}
+use borrow.Author.Tests.{eqb-true, eqb-false, eq-eqb, ne-eqb, not-true}
 use Rattle.chip.specs.Choice.{pick, both, either}
 use Rattle.chip.specs.Phases.{phaseNumber}
 use Rattle.chip.specs.Lines.{codeOf, isSingle}
@@ -93,19 +93,19 @@ module _ (m b : ℕ) (s : State) (good : isGood (register m b) ≡ true) (set : 
     aborted-tells e v =
         chosen-if Told _
         (λ x. brought _ refl refl (quiet-of _ i (abort-ends _ s e v))
-            (B.aborts-connected (is-command 0x01 e) (quiet-of _ i (abort-ends _ s e v)) (abort-runs _ s e v) (is-connected _ x)))
+        (B.aborts-connected (is-command 0x01 e) (quiet-of _ i (abort-ends _ s e v)) (abort-runs _ s e v) (is-connected _ x)))
         (λ x. raises i (B.aborts (is-command 0x01 e) (quiet-of _ i (abort-ends _ s e v)) (abort-runs _ s e v) x))
 
     transferring-tells : (r : Running) → either (eqb (codeOf b) 0x08) (eqb (codeOf b) 0x09) ≡ true → isRefusedBusy (codeOf b) s ≡ false
-      → Told (transferring r (accepted b s))
+        → Told (transferring r (accepted b s))
     unfolding transferring resumed accepted selecting fromDisconnected loaded unread both
     transferring-tells r w f =
         let idle : busy s ≡ false = transfer-idle (codeOf b) s w f in
         chosen-if Told _
         (λ x. chosen-if Told _
-            (λ h. ended _ refl (quiet-of _ i (not-busy-ends s idle)) (λ u. clash u refl)
-                (λ u. B.resumes (codeOf b) own-code w (quiet-of _ i (not-busy-ends s idle)) (not-busy-runs s idle) (is-connected _ x) (eqb-true _ _ h)))
-            (λ h. silent))
+        (λ h. ended _ refl (quiet-of _ i (not-busy-ends s idle)) (λ u. clash u refl)
+        (λ u. B.resumes (codeOf b) own-code w (quiet-of _ i (not-busy-ends s idle)) (not-busy-runs s idle) (is-connected _ x) (eqb-true _ _ h)))
+        (λ h. silent))
         (λ x. silent)
 
     carried-tells : (single : Bool) → isRefusedBusy (codeOf b) s ≡ false → isValid (codeOf b) s ≡ true → Told (carriedOut (codeOf b) single (accepted b s))
@@ -131,8 +131,8 @@ module _ (m b : ℕ) (s : State) (good : isGood (register m b) ≡ true) (set : 
       (λ i. chosen-if (ToldReply (register m b) s) _ (λ r. silent)
       (λ r. chosen-if (ToldReply (register m b) s) _ (carried-tells i _ r)
       (λ v. raises i
-          (B.refuses (codeOf b) own-code n (quiet-of _ i (not-busy-ends s (invalid-idle _ s r v)))
-          (not-busy-runs s (invalid-idle _ s r v)) v)))))
+      (B.refuses (codeOf b) own-code n (quiet-of _ i (not-busy-ends s (invalid-idle _ s r v)))
+      (not-busy-runs s (invalid-idle _ s r v)) v)))))
 
 -- the Data register
 
@@ -141,7 +141,7 @@ data Pops (s : State) : State → Type 0 where
   nothing-read : Pops s s
   one-read : isIncoming (s .transfer .direction) ≡ true → isEmpty (s .fifo) ≡ false → Pops s (setFifo (pop (s .fifo)) s)
   ending-read : {k : ℕ} → isIncoming (s .transfer .direction) ≡ true → waits (s .fifo) ≡ 1 → s .status .pending ≡ Ending k
-    → Pops s (raise k (setFifo (pop (s .fifo)) s))
+      → Pops s (raise k (setFifo (pop (s .fifo)) s))
   wait-read : s .status .pending ≡ ReadOut → Pops s (setConnection Waiting (setPending Nothing (setFifo (pop (s .fifo)) s)))
 
 -- at most n reads of the Data register, made in s, leave the code k and the pending q
@@ -149,7 +149,7 @@ pub data Drains (n : ℕ) (s : State) : ℕ → Pending → Type 0 where
   drains-nothing : Drains n s (s .status .code) (s .status .pending)
   drains-wait : s .status .pending ≡ ReadOut → Drains n s (s .status .code) Nothing
   drains-ending : {k : ℕ} → isIncoming (s .transfer .direction) ≡ true → 0 < waits (s .fifo) → waits (s .fifo) ≤ n
-    → s .status .pending ≡ Ending k → Drains n s k Interrupt
+      → s .status .pending ≡ Ending k → Drains n s k Interrupt
 
 pub some-wait : (q : Fifo) → isEmpty q ≡ false → 0 < waits q
 unfolding isEmpty waits
@@ -163,15 +163,15 @@ pub one-less : (q : Fifo) → isEmpty q ≡ false → waits (pop q) ≡ waits q 
 unfolding pop pick waits
 one-less q e = rw e
 
-holds-one : (q : Fifo) → waits q ≡ 1 → isEmpty q ≡ false
+pub holds-some : (q : Fifo) → 0 < waits q → isEmpty q ≡ false
 unfolding isEmpty waits
-holds-one q w = rw w
+holds-some q w = ne-eqb (q .held) 0 (λ e. omega arith)
 
 pops-settled : (s : State) (q : Pending) → s .status .pending ≡ q → isIncoming (s .transfer .direction) ≡ true → waits (s .fifo) ≡ 1
     → Pops s (settledBy q (setFifo (pop (s .fifo)) s))
 unfolding settledBy
-pops-settled s Nothing e d w = one-read d (holds-one (s .fifo) w)
-pops-settled s Interrupt e d w = one-read d (holds-one (s .fifo) w)
+pops-settled s Nothing e d w = one-read d (holds-some (s .fifo) (omega arith))
+pops-settled s Interrupt e d w = one-read d (holds-some (s .fifo) (omega arith))
 pops-settled s (Ending k) e d w = ending-read d w e
 pops-settled s ReadOut e d w = wait-read e
 
@@ -184,6 +184,7 @@ pops-in s d =
   where
     holds : dbr s ≡ true → isEmpty (s .fifo) ≡ false
     holds e = not-true _ (unfold dbr in rw d at e)
+
     last-one : dbr s ≡ true → isEmpty (pop (s .fifo)) ≡ true → waits (s .fifo) ≡ 1
     last-one e w = omega (arith, some-wait _ (holds e), one-less _ (holds e), none-wait _ w)
 
@@ -265,7 +266,7 @@ stored-status a b s =
 
 drained : {c : Call} {n : ℕ} {s : State} {k : ℕ} {q : Pending}
     → ((j : ℕ) → isIncoming (s .transfer .direction) ≡ true → 0 < waits (s .fifo) → waits (s .fifo) ≤ n → s .status .pending ≡ Ending j
-      → Because c s j)
+    → Because c s j)
     → Drains n s k q → Tells c s k q
 drained h drains-nothing = silent
 drained h (drains-wait e) = settles (rw e) refl
@@ -287,8 +288,8 @@ module _ (m b : ℕ) (s : State) (good : isGood (register m b) ≡ true) where
       chosen-if Says _ (λ e. reads (is-read 0x17 w e))
       (λ n. chosen Says _ silent
       (chosen-if Says _
-          (λ e. drained {n = 1} (λ j d v u f. B.reads-out (is-read 0x19 w e) d (omega arith) f) (then (pops s) drains-nothing))
-          (λ o. silent)))
+      (λ e. drained {n = 1} (λ j d v u f. B.reads (B.byte (is-read 0x19 w e) d (omega arith) f)) (then (pops s) drains-nothing))
+      (λ o. silent)))
 
   written-tells : isSet m ≡ true → Says (writtenAt (s .status .pointer) b s)
   unfolding writtenAt
@@ -302,7 +303,7 @@ module _ (m b : ℕ) (s : State) (good : isGood (register m b) ≡ true) where
 
 pub block-tells : (m : ℕ) (l : List ℕ) (s : State) → isGood (block m l) ≡ true → isSet m ≡ false
     → ToldState (block m l) s (blockRead l s .state)
-block-tells m l s good w = drained (λ j d v u f. B.moves-out good w d v u f) (block-drains l s)
+block-tells m l s good w = drained (λ j d v u f. B.reads (B.slice good w d v u f)) (block-drains l s)
 
 pub block-written-tells : (m : ℕ) (l : List ℕ) (s : State) → ToldState (block m l) s (blockWritten l s .state)
 block-written-tells m l s = rw (block-status l s) silent

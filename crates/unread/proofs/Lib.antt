@@ -7,3 +7,4 @@ pub mod Unread
 pub mod History
 pub mod Asked
 pub mod Rows
+pub mod Because

@@ -27,7 +27,6 @@ use Rattle.chip.specs.Events.{isTransfer}
 use Rattle.chip.specs.Calls.{Call, Outcome, block, time, answer, reselection, isGood, isSet, plain, step, carried}
 use Rattle.chip.specs.declared.State.{State}
 use Rattle.chip.specs.declared.Reply.{Reply}
-use Rattle.chip.specs.declared.Status.{Status}
 use Rattle.chip.specs.declared.Running.{Running}
 use Rattle.chip.specs.declared.Connection.{Connection}
 use Rattle.chip.specs.declared.Connection.the-variants.{Disconnected, Selecting, Waiting, Connected}
@@ -40,28 +39,32 @@ use Rattle.unread.specs.Status.{isCommand, readsAt}
 use Rattle.unread.specs.Because.{Quiet}
 use Rattle.unread.proofs.Choosing.{taken, passed-over, by-test, clash, second-fails, one-of}
 use Rattle.unread.proofs.Host as H
-use Rattle.unread.proofs.Host.{Drains, block-drains, some-wait, none-wait, one-less}
+use Rattle.unread.proofs.Host.{Drains, block-drains, some-wait, holds-some, one-less}
 use Rattle.unread.proofs.Told.{good-step, Issued, issued, Read, is-read}
-use Rattle.unread.proofs.Asked.{Raised, Ended, raised-by, ended-by, open-event}
-
-abbrev status : Reply → Status
-status r = r .state .status
+use Rattle.unread.proofs.Asked.{seen, shown, Raised, Ended, raised-by, ended-by, open-event}
 
 -- commands
 
-module _ (c : Call) (s : State) (q : Quiet s) where
-  stepped-raised : {k : ℕ} (a : ℕ) (r : Reply) → step c s ≡ plain (R.stepped a r) → Raised k (r .state) → Raised k (step c s .state)
-  unfolding R.stepped
-  stepped-raised a r e h = rw e (record { code = h .code; int = h .int })
+-- the pointer's step tells nothing
+stepped-raised : (c : Call) (s : State) {k : ℕ} (a : ℕ) (r : Reply) → step c s ≡ plain (R.stepped a r) → Raised k (r .state)
+    → Raised k (step c s .state)
+unfolding R.stepped
+stepped-raised c s a r e h = rw e (record { code = h .code; int = h .int })
 
-  stepped-ended : {k : ℕ} {w : Bool} (a : ℕ) (r : Reply) → step c s ≡ plain (R.stepped a r) → Ended k w (r .state)
+stepped-ended : (c : Call) (s : State) {k : ℕ} {w : Bool} (a : ℕ) (r : Reply) → step c s ≡ plain (R.stepped a r) → Ended k w (r .state)
     → Ended k w (step c s .state)
-  stepped-ended a r e h =
-      record { raised-now = λ f. stepped-raised a r e (h .raised-now f); read-first = λ f. unfold R.stepped in rw e (h .read-first f) }
+unfolding R.stepped unread
+stepped-ended c s a r e h =
+    record {
+      raised-now = λ f. stepped-raised c s a r e (h .raised-now f);
+      all-read = λ f. rw e (h .all-read f);
+      read-first = λ f. rw e (h .read-first f);
+    }
 
+module _ (c : Call) (s : State) (q : Quiet s) where
   -- a command that is taken
   taken-command : (b : ℕ) → eqb (codeOf b) 0x00 ≡ false → isRefusedBusy (codeOf b) s ≡ false → isValid (codeOf b) s ≡ true
-    → commanded b s .state ≡ carriedOut (codeOf b) (isSingle b) (accepted b s)
+      → commanded b s .state ≡ carriedOut (codeOf b) (isSingle b) (accepted b s)
   unfolding commanded
   taken-command b n r v =
       ap (λ (x : Reply). x .state) (passed-over _ _ n ∙ passed-over _ _ (ap isInterrupt q) ∙ passed-over _ _ r ∙ taken _ _ v)
@@ -80,19 +83,19 @@ module _ (c : Call) (s : State) (q : Quiet s) where
     abort-taken b e = taken-command b (rw e) (rw (e, abort-kept)) (rw (e, abort-valid)) ∙ rw e
 
     pub aborts-connected-row : isCommand 0x01 c s ≡ true → s .wire .connection ≡ Connected
-      → Ended (0x28 + phaseNumber (abortPhase (s .wire .last))) (unread s) (step c s .state)
+        → Ended (0x28 + phaseNumber (abortPhase (s .wire .last))) (unread s) (step c s .state)
     unfolding aborted accepted unread
     aborts-connected-row e x =
         let h : Issued 0x01 c s = issued 0x01 c s e in
-        stepped-ended 0x18 _ (h .leaves)
-        (ended-by _ (ap (λ (t : State). t .status) (abort-taken (h .byte) (h .code) ∙ taken _ _ (ap isConnected x))) refl)
+        stepped-ended c s 0x18 _ (h .leaves)
+        (ended-by _ (ap seen (abort-taken (h .byte) (h .code) ∙ taken _ _ (ap isConnected x))) refl)
 
     pub aborts-row : isCommand 0x01 c s ≡ true → isConnected (s .wire .connection) ≡ false → Raised 0x22 (step c s .state)
     unfolding aborted accepted
     aborts-row e x =
         let h : Issued 0x01 c s = issued 0x01 c s e in
-        stepped-raised 0x18 _ (h .leaves)
-        (raised-by _ (ap (λ (t : State). t .status) (abort-taken (h .byte) (h .code) ∙ passed-over _ _ x)))
+        stepped-raised c s 0x18 _ (h .leaves)
+        (raised-by _ (ap seen (abort-taken (h .byte) (h .code) ∙ passed-over _ _ x)))
 
   module _ (idle : isRunning (s .transfer .running) ≡ false) where
     is-free : busy s ≡ false
@@ -104,7 +107,7 @@ module _ (c : Call) (s : State) (q : Quiet s) where
     kept-free k = rw is-free
 
     refused-command : (b : ℕ) → eqb (codeOf b) 0x00 ≡ false → isValid (codeOf b) s ≡ false
-      → commanded b s .state ≡ interrupt 0x40 (accepted b s)
+        → commanded b s .state ≡ interrupt 0x40 (accepted b s)
     unfolding commanded
     refused-command b n v =
         ap (λ (x : Reply). x .state)
@@ -113,7 +116,7 @@ module _ (c : Call) (s : State) (q : Quiet s) where
     pub refuses-row : (k : ℕ) → isCommand k c s ≡ true → eqb k 0x00 ≡ false → isValid k s ≡ false → Raised 0x40 (step c s .state)
     refuses-row k e n v =
         let h : Issued k c s = issued k c s e in
-        stepped-raised 0x18 _ (h .leaves) (rw (refused-command (h .byte) (rw (h .code, n)) (rw (h .code, v))) (record { code = refl; int = refl }))
+        stepped-raised c s 0x18 _ (h .leaves) (rw (refused-command (h .byte) (rw (h .code, n)) (rw (h .code, v))) (record { code = refl; int = refl }))
 
     module _ (x : s .wire .connection ≡ Connected) (p : s .registers .phase ≡ 0x60) where
       resumable : isResumable s ≡ true
@@ -126,7 +129,7 @@ module _ (c : Call) (s : State) (q : Quiet s) where
 
       resume-raises : (r : Running) (b : ℕ) → Ended 0x16 false (transferring r (accepted b s))
       unfolding transferring resumed loaded accepted unread both
-      resume-raises r b = ended-by _ (ap (λ (t : State). t .status) (taken _ _ (ap isConnected x) ∙ taken _ _ (eq-eqb _ _ p))) refl
+      resume-raises r b = ended-by _ (ap seen (taken _ _ (ap isConnected x) ∙ taken _ _ (eq-eqb _ _ p))) refl
 
       -- what 08 and 09 do
       resume-carried : (k b : ℕ) → either (eqb k 0x08) (eqb k 0x09) ≡ true → Ended 0x16 false (carriedOut k (isSingle b) (accepted b s))
@@ -138,9 +141,9 @@ module _ (c : Call) (s : State) (q : Quiet s) where
       resumes-row k e w =
           let h : Issued k c s = issued k c s e in
           let n : eqb k 0x00 ≡ false = one-of (λ (j : ℕ). eqb j 0x00 ≡ false) 0x08 0x09 k w refl refl in
-          stepped-raised 0x18 _ (h .leaves)
+          stepped-raised c s 0x18 _ (h .leaves)
           (rw (taken-command (h .byte) (rw (h .code) n) (kept-free _) (rw (h .code) (resume-valid k w)), h .code)
-              (resume-carried k (h .byte) w .raised-now refl))
+          (resume-carried k (h .byte) w .raised-now refl))
 
 -- events
 
@@ -150,19 +153,19 @@ pub times-out-row : (n : ℕ) (s : State) → isGood (time n) ≡ true → Quiet
 unfolding carried E.passed E.selectionTime E.timedOut
 times-out-row n s g q x t l =
     raised-by _
-    (ap (λ (o : Outcome). o .state .status) (good-step (time n) s g)
-    ∙ ap status
-      (passed-over _ _ (ap isEnding q) ∙ ap (λ (c : Connection). E.passedBy c n s) x ∙ passed-over _ _ (ap isInterrupt q) ∙ passed-over _ _ t
-      ∙ taken _ _ l))
+    (ap (λ (o : Outcome). seen (o .state)) (good-step (time n) s g)
+    ∙ ap shown
+    (passed-over _ _ (ap isEnding q) ∙ ap (λ (c : Connection). E.passedBy c n s) x ∙ passed-over _ _ (ap isInterrupt q) ∙ passed-over _ _ t
+    ∙ taken _ _ l))
 
 pub answers-row : (s : State) → Quiet s → s .wire .connection ≡ Selecting → isTransfer (s .transfer .running) ≡ false
     → Raised 0x11 (step answer s .state)
 unfolding carried E.answered E.answeredSelecting
 answers-row s q x t =
     raised-by _
-    (ap (λ (o : Outcome). o .state .status) (good-step answer s (unfold isGood in refl))
-    ∙ ap status
-      (ap (λ (c : Connection). E.answeredBy c s) x ∙ passed-over _ _ (ap isEnding q) ∙ passed-over _ _ t ∙ open-event s _ q))
+    (ap (λ (o : Outcome). seen (o .state)) (good-step answer s (unfold isGood in refl))
+    ∙ ap shown
+    (ap (λ (c : Connection). E.answeredBy c s) x ∙ passed-over _ _ (ap isEnding q) ∙ passed-over _ _ t ∙ open-event s _ q))
 
 pub reselects-row : (lines : ℕ) (s : State) → isGood (reselection lines) ≡ true → Quiet s → qualifies lines s ≡ true
     → isConnected (s .wire .connection) ≡ false → both (isWaiting (s .wire .connection)) (E.namesTarget lines s) ≡ false
@@ -170,11 +173,11 @@ pub reselects-row : (lines : ℕ) (s : State) → isGood (reselection lines) ≡
 unfolding carried E.reselected E.reselectedLoud E.reselectedWaiting
 reselects-row lines s g q f x w =
     raised-by _
-    (ap (λ (o : Outcome). o .state .status) (good-step (reselection lines) s g)
-    ∙ ap status (taken _ _ f ∙ by-connection (s .wire .connection) x w ∙ open-event s _ q))
+    (ap (λ (o : Outcome). seen (o .state)) (good-step (reselection lines) s g)
+    ∙ ap shown (taken _ _ f ∙ by-connection (s .wire .connection) x w ∙ open-event s _ q))
   where
     by-connection : (c : Connection) → isConnected c ≡ false → both (isWaiting c) (E.namesTarget lines s) ≡ false
-      → E.reselectedBy c lines s ≡ E.reselectedLoud lines s
+        → E.reselectedBy c lines s ≡ E.reselectedLoud lines s
     by-connection Disconnected x w = passed-over _ _ (ap isEnding q)
     by-connection Selecting x w = passed-over _ _ (ap isEnding q)
     by-connection Waiting x w = passed-over _ _ (ap isEnding q) ∙ passed-over _ _ (unfold both in w)
@@ -190,28 +193,63 @@ is-in Out e = clash e refl
 data-read : (s : State) → isIncoming (s .transfer .direction) ≡ true → isEmpty (s .fifo) ≡ false
     → R.dataRead s ≡ done (front (s .fifo)) (settled (setFifo (pop (s .fifo)) s))
 unfolding R.dataRead
-data-read s d e = ap (λ (x : Direction). R.dataReadBy x s) (is-in _ d) ∙ taken _ _ has-byte
+data-read s d e =
+    let f : s .transfer .direction ≡ In = is-in (s .transfer .direction) d in
+    ap (λ (x : Direction). R.dataReadBy x s) f ∙ taken _ _ (has-byte f)
   where
-    has-byte : dbr s ≡ true
-    has-byte = unfold dbr in rw (is-in _ d, e)
+    has-byte : s .transfer .direction ≡ In → dbr s ≡ true
+    has-byte f = unfold dbr in rw (f, e)
 
 -- INT is set: no read of the Data register tells anything
 drains-on : {n : ℕ} {s : State} {k : ℕ} {q : Pending} → Drains n s k q → s .status .pending ≡ Interrupt
     → (k ≡ s .status .code) × (q ≡ Interrupt)
 drains-on H.drains-nothing i = (refl, i)
-drains-on (H.drains-wait e) i = clash (ap isInterrupt (sym i ∙ e)) refl
-drains-on (H.drains-ending d w v e) i = clash (ap isInterrupt (sym i ∙ e)) refl
+drains-on (H.drains-wait e) i = clash refl (ap isInterrupt (sym i ∙ e))
+drains-on (H.drains-ending d w v e) i = clash refl (ap isInterrupt (sym i ∙ e))
+
+-- the read of the last byte of an ending, and of a byte before it
+last-settles : (k : ℕ) (s : State) → isEmpty (pop (s .fifo)) ≡ true → s .status .pending ≡ Ending k
+    → settled (setFifo (pop (s .fifo)) s) ≡ raise k (setFifo (pop (s .fifo)) s)
+unfolding settled settledBy
+last-settles k s z p = taken _ _ z ∙ ap (λ (q : Pending). settledBy q (setFifo (pop (s .fifo)) s)) p
+
+more-settles : (s : State) → isEmpty (pop (s .fifo)) ≡ false → settled (setFifo (pop (s .fifo)) s) ≡ setFifo (pop (s .fifo)) s
+unfolding settled
+more-settles s z = passed-over _ _ z
 
 block-raises : (k : ℕ) (l : List ℕ) (s : State) → isIncoming (s .transfer .direction) ≡ true → 0 < waits (s .fifo)
     → waits (s .fifo) ≤ length l → s .status .pending ≡ Ending k → Raised k (R.blockRead l s .state)
-unfolding R.blockRead
+unfolding R.blockRead raise
 block-raises k [] s d v u p = absurd (omega arith)
 block-raises k (x ∷ l) s d v u p =
-    let e : isEmpty (s .fifo) ≡ false = some-there (s .fifo) v in
-    rw (data-read s d e)
+    rw (data-read s d (holds-some (s .fifo) v))
     (by-test (isEmpty (pop (s .fifo)))
-    (λ z. ?last)
-    (λ z. ?more))
-  where
-    some-there : (q : Fifo) → 0 < waits q → isEmpty q ≡ false
-    some-there q v = ?st
+    (λ z. rw (last-settles k s z p)
+    (let h = drains-on (block-drains l (raise k (setFifo (pop (s .fifo)) s))) refl in record { code = h .0; int = h .1 }))
+    (λ z. rw (more-settles s z)
+    (block-raises k l (setFifo (pop (s .fifo)) s) d (some-wait _ z) (omega (arith, one-less (s .fifo) (holds-some (s .fifo) v))) p)))
+
+pub moves-out-row : (m : ℕ) (l : List ℕ) (s : State) (k : ℕ) → isGood (block m l) ≡ true → isSet m ≡ false
+    → isIncoming (s .transfer .direction) ≡ true → 0 < waits (s .fifo) → waits (s .fifo) ≤ length l → s .status .pending ≡ Ending k
+    → Raised k (step (block m l) s .state)
+unfolding carried
+moves-out-row m l s k g f d v u p =
+    rw (good-step (block m l) s g, passed-over (R.blockWritten l s) (R.blockRead l s) f) (block-raises k l s d v u p)
+
+-- one read is a block of one
+data-raises : (k : ℕ) (s : State) → isIncoming (s .transfer .direction) ≡ true → waits (s .fifo) ≡ 1 → s .status .pending ≡ Ending k
+    → Raised k (R.dataRead s .state)
+unfolding R.blockRead
+data-raises k s d w p =
+    let e = data-read s d (holds-some (s .fifo) (omega arith)) in
+    rw e (rw e at (block-raises k (0 ∷ []) s d (omega arith) (omega arith) p))
+
+data-reachable : (b : ℕ) (s : State) → R.accessedAt 0x19 false b s ≡ R.dataRead s
+unfolding R.accessedAt R.isBlind R.readAt both either pick
+data-reachable b s = by-test (busy s) (λ e. rw e) (λ e. rw e)
+
+pub reads-out-row : (c : Call) (s : State) (k : ℕ) → readsAt 0x19 c s ≡ true → isIncoming (s .transfer .direction) ≡ true
+    → waits (s .fifo) ≡ 1 → s .status .pending ≡ Ending k → Raised k (step c s .state)
+reads-out-row c s k e d w p =
+    let h : Read 0x19 c s = is-read 0x19 c s e in
+    stepped-raised c s 0x19 _ (h .gives) (rw (data-reachable (h .byte) s) (data-raises k s d w p))

@@ -62,10 +62,10 @@ module _ {c : Call} {s : State} where
   unless-int r h = chosen-if (ToldReply c s) _ (λ i. silent) h
 
   pub ended : {k : ℕ} (t : State) → t .status .code ≡ s .status .code → Quiet s → (unread t ≡ true → Begins c s k)
-    → (unread t ≡ false → Because c s k) → ToldState c s (endingWith k t)
+      → (unread t ≡ false → Because c s k) → ToldState c s (endingWith k t)
   unfolding endingWith raise
   ended t e q x y = chosen-if (ToldState c s) _ (λ w. rw e (begins q (x w))) (λ w. raises (rw q) (y w))
 
   pub brought : {k : ℕ} (t : State) → t .status .code ≡ s .status .code → unread t ≡ unread s → Quiet s → Brings c s k
-    → ToldState c s (endingWith k t)
+      → ToldState c s (endingWith k t)
   brought t e u q h = ended t e q (λ w. brings-unread h (rw (← u) w)) (λ w. brings h (rw (← u) w))

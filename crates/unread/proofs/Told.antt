@@ -81,8 +81,8 @@ issued k (register m b) s e =
       byte = b;
       code = eqb-true _ _ (both-second (eqb (s .status .pointer) 0x18) _ h);
       leaves =
-        access-step m b s 0x18 true (both-first _ _ e) (both-first _ _ f) (both-first _ _ h)
-        ∙ ap (λ (r : Reply). plain (R.stepped 0x18 r)) (never-blind b s);
+          access-step m b s 0x18 true (both-first _ _ e) (both-first _ _ f) (both-first _ _ h)
+          ∙ ap (λ (r : Reply). plain (R.stepped 0x18 r)) (never-blind b s);
     }
 issued k (block m l) s e = clash e refl
 issued k (time n) s e = clash e refl
@@ -120,7 +120,7 @@ is-read a free s e = clash e refl
 pub data ReadTold (s : State) : Outcome → Type 0 where
   blind : {o : Outcome} → o .answer ≡ Blind → o .state .status .code ≡ s .status .code → o .state .status .pending ≡ s .status .pending → ReadTold s o
   read : {o : Outcome} → o .answer ≡ Done (s .status .code) → o .state .status .code ≡ s .status .code
-    → o .state .status .pending ≡ withoutInterrupt (s .status .pending) → ReadTold s o
+      → o .state .status .pending ≡ withoutInterrupt (s .status .pending) → ReadTold s o
 
 readable : (b : ℕ) (s : State) → ReadTold s (plain (R.stepped 0x17 (pick false (R.writtenAt 0x17 b s) (R.readAt 0x17 s))))
 unfolding R.stepped R.readAt pick

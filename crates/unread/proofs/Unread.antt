@@ -5,6 +5,7 @@
 use mathlib.Core.Path.{_≡_, refl}
 use mathlib.Core.Bool.{Bool, true, false}
 use Prim.Native.Nat.{ℕ}
+use lib.Dec.{eqb}
 use borrow.Author.Tests.{ne-eqb}
 use Rattle.chip.specs.Choice.{both, either}
 use Rattle.chip.specs.Interrupts.{interrupted, isInterrupt}
@@ -50,6 +51,13 @@ module _ (c : Call) (s t : State) (i : interrupted t ≡ true) where
   pub raised-code : (t .status .code ≡ s .status .code → ⊥) → raised c s t ≡ true
   unfolding raised both either
   raised-code n = by-test (interrupted s) (λ j. rw (i, j, ne-eqb _ _ n)) (λ j. rw (i, j))
+
+  pub raised-reset : isReset c s ≡ true → raised c s t ≡ true
+  unfolding raised both either
+  raised-reset r =
+      by-test (interrupted s)
+      (λ j. by-test (eqb (t .status .code) (s .status .code)) (λ k. rw (i, j, k, r)) (λ k. rw (i, j, k)))
+      (λ j. rw (i, j))
 
 pub unread-status-kept : UnreadStatusKept step
 unread-status-kept =

@@ -2,6 +2,7 @@
 --   Because c s k        the table: the call c, made in s, raises the code k
 --   Brings c s k         its rows that end a running command: k is raised at once, or when the incoming bytes are read out
 --   Begins c s k         such a row with incoming bytes unread: an ending with k begins
+--   ReadsOut c s k       the call c reads the last incoming byte of an ending with k: at 19h, or by a block
 --   RaisedBecause f      the table is sound and complete for the step f
 --   EndingBecause f      an ending with k begins exactly where the table says so
 --   Quiet s              nothing is pending in s: no INT and no ending
@@ -143,79 +144,82 @@ pub record LastMessage (n b m : ℕ) (s : State) : Type 0 where
 pub data Brings : Call → State → ℕ → Type 0 where
   -- 16h: Select-And-Transfer, Message In 00 after the status
   completes : {n b m : ℕ} {s : State} → Offered n b m MessageIn s → isTransfer (s .transfer .running) ≡ true
-    → stage s ≡ AfterStatus → eqb b 0x00 ≡ true → halts m s ≡ false → Brings (request n b m) s 0x16
+      → stage s ≡ AfterStatus → eqb b 0x00 ≡ true → halts m s ≡ false → Brings (request n b m) s 0x16
   -- 18h+p: Transfer Info, a Request with no byte left
   overruns : {n b m : ℕ} {p : Phase} {s : State} → Offered n b m p s → isIdle (s .transfer .running) ≡ false
-    → isSpent s ≡ true → Brings (request n b m) s (0x18 + phaseNumber p)
+      → isSpent s ≡ true → Brings (request n b m) s (0x18 + phaseNumber p)
   -- 21h: Select-And-Transfer, Message In 02 before the status
   saves : {n b m : ℕ} {s : State} → Offered n b m MessageIn s → isTransfer (s .transfer .running) ≡ true
-    → isBeforeStatus (stage s) ≡ true → eqb b 0x02 ≡ true → halts m s ≡ false → Brings (request n b m) s 0x21
+      → isBeforeStatus (stage s) ≡ true → eqb b 0x02 ≡ true → halts m s ≡ false → Brings (request n b m) s 0x21
   -- 28h+p: Abort, connected
   aborts-connected : {c : Call} {s : State} → isCommand 0x01 c s ≡ true → Quiet s → isRunning (s .transfer .running) ≡ true
-    → s .wire .connection ≡ Connected → Brings c s (0x28 + phaseNumber (abortPhase (s .wire .last)))
+      → s .wire .connection ≡ Connected → Brings c s (0x28 + phaseNumber (abortPhase (s .wire .last)))
   -- 41h: Free, bytes left in a Transfer Info; in a Select-And-Transfer elsewhere than at 42h
   cuts-info : {s : State} → Quiet s → s .wire .connection ≡ Connected → s .transfer .running ≡ TransferInfo
-    → noneLeft s ≡ false → Brings free s 0x41
+      → noneLeft s ≡ false → Brings free s 0x41
   cuts-transfer : {s : State} → Quiet s → s .wire .connection ≡ Connected → isTransfer (s .transfer .running) ≡ true
-    → eqb (s .registers .phase) 0x42 ≡ false → Brings free s 0x41
+      → eqb (s .registers .phase) 0x42 ≡ false → Brings free s 0x41
   -- 43h: a byte of bad parity with HSP, where it would be taken in
   spoils : {n b m : ℕ} {p : Phase} {s : State} → Offered n b m p s → isIdle (s .transfer .running) ≡ false
-    → wants p b s ≡ true → comesIn p ≡ true → fits p s ≡ true → halts m s ≡ true → Brings (request n b m) s 0x43
+      → wants p b s ≡ true → comesIn p ≡ true → fits p s ≡ true → halts m s ≡ true → Brings (request n b m) s 0x43
   -- 48h+p: a Request that the running command does not want
   surprises : {n b m : ℕ} {p : Phase} {s : State} → Offered n b m p s → isIdle (s .transfer .running) ≡ false
-    → wants p b s ≡ false → isSpent s ≡ false → Brings (request n b m) s (0x48 + phaseNumber p)
+      → wants p b s ≡ false → isSpent s ≡ false → Brings (request n b m) s (0x48 + phaseNumber p)
   -- 85h: Free, no byte left in a Transfer Info; in a Select-And-Transfer at 42h with IDI
   leaves-info : {s : State} → Quiet s → s .wire .connection ≡ Connected → s .transfer .running ≡ TransferInfo
-    → noneLeft s ≡ true → Brings free s 0x85
+      → noneLeft s ≡ true → Brings free s 0x85
   leaves-transfer : {s : State} → Quiet s → s .wire .connection ≡ Connected → isTransfer (s .transfer .running) ≡ true
-    → eqb (s .registers .phase) 0x42 ≡ true → idi s ≡ true → Brings free s 0x85
+      → eqb (s .registers .phase) 0x42 ≡ true → idi s ≡ true → Brings free s 0x85
 
 pub data Begins : Call → State → ℕ → Type 0 where
   brings-unread : {c : Call} {s : State} {k : ℕ} → Brings c s k → unread s ≡ true → Begins c s k
   -- 20h: the last Message In byte itself is unread
   keeps-last : {n b m : ℕ} {s : State} → LastMessage n b m s → isIncoming (s .transfer .direction) ≡ true
-    → Begins (request n b m) s 0x20
+      → Begins (request n b m) s 0x20
+
+pub data ReadsOut : Call → State → ℕ → Type 0 where
+  byte : {c : Call} {s : State} {k : ℕ} → readsAt 0x19 c s ≡ true → isIncoming (s .transfer .direction) ≡ true
+      → waits (s .fifo) ≡ 1 → s .status .pending ≡ Ending k → ReadsOut c s k
+  slice : {m : ℕ} {l : List ℕ} {s : State} {k : ℕ} → isGood (block m l) ≡ true → isSet m ≡ false
+      → isIncoming (s .transfer .direction) ≡ true → 0 < waits (s .fifo) → waits (s .fifo) ≤ length l
+      → s .status .pending ≡ Ending k → ReadsOut (block m l) s k
 
 pub data Because : Call → State → ℕ → Type 0 where
   brings : {c : Call} {s : State} {k : ℕ} → Brings c s k → unread s ≡ false → Because c s k
-  -- the read that empties the FIFO of an ending with k: of the Data register, or of a block
-  reads-out : {c : Call} {s : State} {k : ℕ} → readsAt 0x19 c s ≡ true → isIncoming (s .transfer .direction) ≡ true
-    → waits (s .fifo) ≡ 1 → s .status .pending ≡ Ending k → Because c s k
-  moves-out : {m : ℕ} {l : List ℕ} {s : State} {k : ℕ} → isGood (block m l) ≡ true → isSet m ≡ false
-    → isIncoming (s .transfer .direction) ≡ true → 0 < waits (s .fifo) → waits (s .fifo) ≤ length l
-    → s .status .pending ≡ Ending k → Because (block m l) s k
+  -- any code: the read that empties the FIFO of its ending
+  reads : {c : Call} {s : State} {k : ℕ} → ReadsOut c s k → Because c s k
   -- 00: Reset
   resets : {c : Call} {s : State} → isReset c s ≡ true → Because c s 0x00
   -- 11h: Answer to a Select
   answers : {s : State} → Quiet s → s .wire .connection ≡ Selecting → isTransfer (s .transfer .running) ≡ false
-    → Because answer s 0x11
+      → Because answer s 0x11
   -- 16h: the resume at 60h
   resumes : {c : Call} {s : State} (k : ℕ) → isCommand k c s ≡ true → either (eqb k 0x08) (eqb k 0x09) ≡ true → Quiet s
-    → isRunning (s .transfer .running) ≡ false → s .wire .connection ≡ Connected → s .registers .phase ≡ 0x60
-    → Because c s 0x16
+      → isRunning (s .transfer .running) ≡ false → s .wire .connection ≡ Connected → s .registers .phase ≡ 0x60
+      → Because c s 0x16
   -- 20h: the last Message In byte of a Transfer Info that nothing comes in by; no call reaches such a state
   takes-last : {n b m : ℕ} {s : State} → LastMessage n b m s → isIncoming (s .transfer .direction) ≡ false
-    → Because (request n b m) s 0x20
+      → Because (request n b m) s 0x20
   -- 22h: Abort, not connected
   aborts : {c : Call} {s : State} → isCommand 0x01 c s ≡ true → Quiet s → isRunning (s .transfer .running) ≡ true
-    → isConnected (s .wire .connection) ≡ false → Because c s 0x22
+      → isConnected (s .wire .connection) ≡ false → Because c s 0x22
   -- 40h: a command that is not valid, and no command runs
   refuses : {c : Call} {s : State} (k : ℕ) → isCommand k c s ≡ true → eqb k 0x00 ≡ false → Quiet s
-    → isRunning (s .transfer .running) ≡ false → isValid k s ≡ false → Because c s 0x40
+      → isRunning (s .transfer .running) ≡ false → isValid k s ≡ false → Because c s 0x40
   -- 42h: Time, selecting, when the units reach register 02, which is not 0
   times-out : {n : ℕ} {s : State} → isGood (time n) ≡ true → Quiet s → s .wire .connection ≡ Selecting
-    → eqb (s .registers .timeout) 0 ≡ false → leb (s .registers .timeout) (s .wire .elapsed + n) ≡ true
-    → Because (time n) s 0x42
+      → eqb (s .registers .timeout) 0 ≡ false → leb (s .registers .timeout) (s .wire .elapsed + n) ≡ true
+      → Because (time n) s 0x42
   -- 80h: Reselection, not connected, other than by the Target that a waiting Select-And-Transfer names
   reselects : {lines : ℕ} {s : State} → isGood (reselection lines) ≡ true → Quiet s → qualifies lines s ≡ true
-    → isConnected (s .wire .connection) ≡ false → both (isWaiting (s .wire .connection)) (namesTarget lines s) ≡ false
-    → Because (reselection lines) s 0x80
+      → isConnected (s .wire .connection) ≡ false → both (isWaiting (s .wire .connection)) (namesTarget lines s) ≡ false
+      → Because (reselection lines) s 0x80
   -- 85h: Free, connected and idle
   frees : {s : State} → Quiet s → s .wire .connection ≡ Connected → isIdle (s .transfer .running) ≡ true
-    → Because free s 0x85
+      → Because free s 0x85
   -- 88h+p: a Request of a phase not yet reported, connected and idle
   asks : {n b m : ℕ} {p : Phase} {s : State} → Offered n b m p s → isIdle (s .transfer .running) ≡ true
-    → isNoted p (s .wire .reported) ≡ false → Because (request n b m) s (0x88 + phaseNumber p)
+      → isNoted p (s .wire .reported) ≡ false → Because (request n b m) s (0x88 + phaseNumber p)
 
 pub record RaisedBecause (f : Call → State → Outcome) : Type 0 where
   pub sound : (c : Call) (s : State) → raised c s (f c s .state) ≡ true → Because c s (f c s .state .status .code)
@@ -224,5 +228,5 @@ pub record RaisedBecause (f : Call → State → Outcome) : Type 0 where
 
 pub record EndingBecause (f : Call → State → Outcome) : Type 0 where
   pub sound : (c : Call) (s : State) (k : ℕ) → f c s .state .status .pending ≡ Ending k
-    → (s .status .pending ≡ Ending k) ⊎ Begins c s k
+      → (s .status .pending ≡ Ending k) ⊎ Begins c s k
   pub complete : (c : Call) (s : State) (k : ℕ) → Begins c s k → f c s .state .status .pending ≡ Ending k

@@ -93,4 +93,4 @@ pub record NoStatusLost (f : Call → State → Outcome) : Type 0 where
   pub orderly : (l : List Call) (s : State) → Orderly (s .status .code) (interrupted s) (history f l s)
   -- between two raised codes stands a read of 17h, or the later one is Reset's
   pub read-between : (l : List Call) (s : State) (g h j : List Happening) (x : Happening) (k : ℕ)
-    → history f l s ≡ g ++ (x ∷ (h ++ (raises k ∷ j))) → isRaising x ≡ true → hasRead h ≡ true
+      → history f l s ≡ g ++ (x ∷ (h ++ (raises k ∷ j))) → isRaising x ≡ true → hasRead h ≡ true

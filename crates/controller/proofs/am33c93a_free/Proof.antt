@@ -1,3 +1,4 @@
+-- `controller::am33c93a_free` meets its contract: each way through the code is the definition's own way.
 use mathlib.Core.Path.{refl, ap, sym, _∙_}
 use Rattle.chip.specs.Calls as Calls
 use Rattle.chip.specs.Calls.{isGood, carried, plain}
@@ -6,29 +7,19 @@ use Rattle.controller.proofs.Entry.{served, refused-image, refused-oper
 use borrow.Author.Needs.{needs}
 use Rattle.controller.proofs.am33c93a_free.Statement.{statement}
 use Rattle.controller.proofs.am33c93a_free.Tie as tie
-use Rattle.controller.proofs.am33c93a_free.Reads as reads
-use Rattle.controller.proofs.am33c93a_free.Lts as lts
-use Rattle.bus.proofs.free.freed.Reads as freed-reads
-use Rattle.controller.proofs.finish.finish.Reads as finish-reads
-use Rattle.image.proofs.read.Reads as read-reads
 
--- src/lib.rt:182:9
 read-requires : tie.Need-read-requires
 read-requires c κs = search needs
 
--- src/lib.rt:185:31
 freed-requires : tie.Need-freed-requires
 freed-requires c κs = search needs
 
--- src/lib.rt:185:9
 finish-requires : tie.Need-finish-requires
 finish-requires c κs = search needs
 
--- src/lib.rt:185:9
 same-length : tie.Need-same-length
 same-length c = search needs
 
--- src/lib.rt:185:9
 returns : tie.Need-returns
 unfolding isGood carried
 returns c =
@@ -38,11 +29,9 @@ returns c =
     (c .before .before .finish .ensures .0)
     (c .before .before .finish .ensures .1)
 
--- src/lib.rt:177:1
 same-length-2 : tie.Need-same-length-2
 same-length-2 c = search needs
 
--- src/lib.rt:177:1
 returns-2 : tie.Need-returns-2
 unfolding isGood carried
 returns-2 c =

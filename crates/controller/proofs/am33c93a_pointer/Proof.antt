@@ -1,3 +1,4 @@
+-- `controller::am33c93a_pointer` meets its contract: each way through the code is the definition's own way.
 use mathlib.Core.Path.{refl, ap, sym, _∙_}
 use Rattle.chip.specs.Calls as Calls
 use Rattle.chip.specs.Calls.{isGood, carried, plain}
@@ -6,33 +7,22 @@ use Rattle.controller.proofs.Entry.{served, refused-image, refused-oper
 use borrow.Author.Needs.{needs}
 use Rattle.controller.proofs.am33c93a_pointer.Statement.{statement}
 use Rattle.controller.proofs.am33c93a_pointer.Tie as tie
-use Rattle.controller.proofs.am33c93a_pointer.Reads as reads
-use Rattle.controller.proofs.am33c93a_pointer.Lts as lts
-use Rattle.controller.proofs.calls.pointer.Reads as pointer-reads
-use Rattle.controller.proofs.finish.finish.Reads as finish-reads
-use Rattle.image.proofs.read.Reads as read-reads
 
--- src/lib.rt:45:17
 read-requires : tie.Need-read-requires
 read-requires c κs = search needs
 
--- src/lib.rt:48:60
 cast-pointer : tie.Need-cast-pointer
 cast-pointer c = search needs
 
--- src/lib.rt:48:39
 pointer-requires : tie.Need-pointer-requires
 pointer-requires c κs = search needs
 
--- src/lib.rt:48:17
 finish-requires : tie.Need-finish-requires
 finish-requires c κs = search needs
 
--- src/lib.rt:48:17
 same-length : tie.Need-same-length
 same-length c = search needs
 
--- src/lib.rt:48:17
 returns : tie.Need-returns
 unfolding isGood carried
 returns c =
@@ -42,27 +32,23 @@ returns c =
     (c .before .before .finish .ensures .0)
     (c .before .before .finish .ensures .1)
 
--- src/lib.rt:50:13
 same-length-2 : tie.Need-same-length-2
 same-length-2 c = search needs
 
--- src/lib.rt:50:13
 returns-2 : tie.Need-returns-2
 unfolding isGood carried
 returns-2 c =
     refused-image (Calls.pointer _ _) _ _ (c .before .read .ensures) (c .if3 .left)
 
--- src/lib.rt:52:9
 returns-3 : tie.Need-returns-3
 unfolding isGood carried
 returns-3 c =
-    refused-operand (Calls.pointer _ _) _ (and-then-false (le-ltb _ _ (c .if2 .left)))
+    refused-operand (Calls.pointer _ _) _ (and-then-false _ _ (le-ltb _ _ (c .if2 .left)))
 
--- src/lib.rt:38:1
 returns-4 : tie.Need-returns-4
 unfolding isGood carried
 returns-4 c =
-    refused-operand (Calls.pointer _ _) _ (and-false (le-ltb _ _ (c .if1 .left)))
+    refused-operand (Calls.pointer _ _) _ (and-false _ _ (le-ltb _ _ (c .if1 .left)))
 
 pub am33c93a-pointer-spec : {M : Type 1} → statement M
 am33c93a-pointer-spec =

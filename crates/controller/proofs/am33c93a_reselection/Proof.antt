@@ -1,3 +1,4 @@
+-- `controller::am33c93a_reselection` meets its contract: each way through the code is the definition's own way.
 use mathlib.Core.Path.{refl, ap, sym, _∙_}
 use Rattle.chip.specs.Calls as Calls
 use Rattle.chip.specs.Calls.{isGood, carried, plain}
@@ -6,33 +7,22 @@ use Rattle.controller.proofs.Entry.{served, refused-image, refused-oper
 use borrow.Author.Needs.{needs}
 use Rattle.controller.proofs.am33c93a_reselection.Statement.{statement}
 use Rattle.controller.proofs.am33c93a_reselection.Tie as tie
-use Rattle.controller.proofs.am33c93a_reselection.Reads as reads
-use Rattle.controller.proofs.am33c93a_reselection.Lts as lts
-use Rattle.bus.proofs.reselection.reselected.Reads as reselected-reads
-use Rattle.controller.proofs.finish.finish.Reads as finish-reads
-use Rattle.image.proofs.read.Reads as read-reads
 
--- src/lib.rt:144:13
 read-requires : tie.Need-read-requires
 read-requires c κs = search needs
 
--- src/lib.rt:147:59
 cast-reselected : tie.Need-cast-reselected
 cast-reselected c = search needs
 
--- src/lib.rt:147:35
 reselected-requires : tie.Need-reselected-requires
 reselected-requires c κs = search needs
 
--- src/lib.rt:147:13
 finish-requires : tie.Need-finish-requires
 finish-requires c κs = search needs
 
--- src/lib.rt:147:13
 same-length : tie.Need-same-length
 same-length c = search needs
 
--- src/lib.rt:147:13
 returns : tie.Need-returns
 unfolding isGood carried
 returns c =
@@ -42,17 +32,14 @@ returns c =
     (c .before .before .finish .ensures .0)
     (c .before .before .finish .ensures .1)
 
--- src/lib.rt:149:9
 same-length-2 : tie.Need-same-length-2
 same-length-2 c = search needs
 
--- src/lib.rt:149:9
 returns-2 : tie.Need-returns-2
 unfolding isGood carried
 returns-2 c =
     refused-image (Calls.reselection _) _ _ (c .before .read .ensures) (c .if2 .left)
 
--- src/lib.rt:138:1
 returns-3 : tie.Need-returns-3
 unfolding isGood carried
 returns-3 c =

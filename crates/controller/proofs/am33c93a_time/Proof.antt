@@ -1,3 +1,4 @@
+-- `controller::am33c93a_time` meets its contract: each way through the code is the definition's own way.
 use mathlib.Core.Path.{refl, ap, sym, _∙_}
 use Rattle.chip.specs.Calls as Calls
 use Rattle.chip.specs.Calls.{isGood, carried, plain}
@@ -6,33 +7,22 @@ use Rattle.controller.proofs.Entry.{served, refused-image, refused-oper
 use borrow.Author.Needs.{needs}
 use Rattle.controller.proofs.am33c93a_time.Statement.{statement}
 use Rattle.controller.proofs.am33c93a_time.Tie as tie
-use Rattle.controller.proofs.am33c93a_time.Reads as reads
-use Rattle.controller.proofs.am33c93a_time.Lts as lts
-use Rattle.bus.proofs.time.passed.Reads as passed-reads
-use Rattle.controller.proofs.finish.finish.Reads as finish-reads
-use Rattle.image.proofs.read.Reads as read-reads
 
--- src/lib.rt:115:13
 read-requires : tie.Need-read-requires
 read-requires c κs = search needs
 
--- src/lib.rt:118:48
 cast-passed : tie.Need-cast-passed
 cast-passed c = search needs
 
--- src/lib.rt:118:35
 passed-requires : tie.Need-passed-requires
 passed-requires c κs = search needs
 
--- src/lib.rt:118:13
 finish-requires : tie.Need-finish-requires
 finish-requires c κs = search needs
 
--- src/lib.rt:118:13
 same-length : tie.Need-same-length
 same-length c = search needs
 
--- src/lib.rt:118:13
 returns : tie.Need-returns
 unfolding isGood carried
 returns c =
@@ -42,17 +32,14 @@ returns c =
     (c .before .before .finish .ensures .0)
     (c .before .before .finish .ensures .1)
 
--- src/lib.rt:120:9
 same-length-2 : tie.Need-same-length-2
 same-length-2 c = search needs
 
--- src/lib.rt:120:9
 returns-2 : tie.Need-returns-2
 unfolding isGood carried
 returns-2 c =
     refused-image (Calls.time _) _ _ (c .before .read .ensures) (c .if2 .left)
 
--- src/lib.rt:109:1
 returns-3 : tie.Need-returns-3
 unfolding isGood carried
 returns-3 c =

@@ -1,0 +1,136 @@
+-- The table of specs/Because.antt is sound and complete for the step.
+--   raised-because   a call raises a code exactly where the table says so, and that code
+--   ending-because   an ending begins exactly where the table says so
+--   brings-row because-row   what each row says, the step does
+use mathlib.Core.Path.{_≡_, refl, sym, ap, _∙_}
+use mathlib.Core.Bool.{Bool, true, false}
+use mathlib.Core.Logic.{_⊎_, inl, inr, ⊎-elim}
+use Prim.Native.Nat.{ℕ}
+use Rattle.chip.specs.Choice.{both, either, pick}
+use Rattle.chip.specs.Count.{noneLeft}
+use Rattle.chip.specs.Interrupts.{interrupted, isInterrupt, withoutInterrupt, unread}
+use Rattle.chip.specs.TransferInfo.{infoFreeCode}
+use Rattle.chip.specs.Calls.{Call, step}
+use Rattle.chip.specs.declared.State.{State}
+use Rattle.chip.specs.declared.Pending.{Pending}
+use Rattle.chip.specs.declared.Pending.the-variants.{Nothing, Interrupt, Ending, ReadOut}
+use Rattle.unread.specs.Status.{isReset, raised}
+use Rattle.unread.specs.Because as B
+use Rattle.unread.specs.Because.{Quiet, Brings, Begins, ReadsOut, Because, RaisedBecause, EndingBecause}
+use Rattle.unread.proofs.Choosing.{by-test, clash}
+use Rattle.unread.proofs.Telling.{Tells, isPlain, silent, settles, begins, raises, reads, resets}
+use Rattle.unread.proofs.Told.{told, reset-told}
+use Rattle.unread.proofs.Unread.{raised-anew, raised-reset}
+use Rattle.unread.proofs.History.{plain-int, cleared-int, raised-from-quiet, raised-sets-int}
+use Rattle.unread.proofs.Asked as A
+use Rattle.unread.proofs.Asked.{Raised, Ended}
+use Rattle.unread.proofs.Rows as W
+
+-- complete
+
+pub brings-row : {c : Call} {s : State} {k : ℕ} → Brings c s k → Ended k (unread s) (step c s .state)
+unfolding infoFreeCode pick
+brings-row (B.completes {n} {b} {m} {s} o t g e h) = A.completes-row n b m s o t g e h
+brings-row (B.overruns {n} {b} {m} {p} {s} o r e) = A.overruns-row n b m s o r e
+brings-row (B.saves {n} {b} {m} {s} o t g e h) = A.saves-row n b m s o t g e h
+brings-row (B.aborts-connected {c} {s} e q r x) = W.aborts-connected-row c s q r e x
+brings-row (B.cuts-info {s} q x r e) = rw e at (A.info-free-row s q x r)
+brings-row (B.cuts-transfer {s} q x r e) = A.cuts-transfer-row s q x r e
+brings-row (B.spoils {n} {b} {m} {p} {s} o r w c f h) = A.spoils-row n b m s o r w c f h
+brings-row (B.surprises {n} {b} {m} {p} {s} o r w e) = A.surprises-row n b m s o r w e
+brings-row (B.leaves-info {s} q x r e) = rw e at (A.info-free-row s q x r)
+brings-row (B.leaves-transfer {s} q x r e d) = A.leaves-transfer-row s q x r e d
+
+reads-row : {c : Call} {s : State} {k : ℕ} → ReadsOut c s k → Raised k (step c s .state)
+reads-row (B.byte {c} {s} {k} e d w p) = W.reads-out-row c s k e d w p
+reads-row (B.slice {m} {l} {s} {k} g f d v u p) = W.moves-out-row m l s k g f d v u p
+
+pub because-row : {c : Call} {s : State} {k : ℕ} → Because c s k → Raised k (step c s .state)
+because-row (B.brings h u) = brings-row h .raised-now u
+because-row (B.reads h) = reads-row h
+because-row (B.resets {c} {s} e) = record { code = reset-told c s e .0; int = reset-told c s e .1 }
+because-row (B.answers {s} q x t) = W.answers-row s q x t
+because-row (B.resumes {c} {s} k e w q r x p) = W.resumes-row c s q r x p k e w
+because-row (B.takes-last {n} {b} {m} {s} l d) = A.last-row n b m s l .raised-now d
+because-row (B.aborts {c} {s} e q r x) = W.aborts-row c s q r e x
+because-row (B.refuses {c} {s} k e n q r v) = W.refuses-row c s q r k e n v
+because-row (B.times-out {n} {s} g q x t l) = W.times-out-row n s g q x t l
+because-row (B.reselects {lines} {s} g q f x w) = W.reselects-row lines s g q f x w
+because-row (B.frees {s} q x r) = A.idle-free-row s q x r
+because-row (B.asks {n} {b} {m} {p} {s} o r f) = A.asks-row n b m s o r f
+
+begins-row : {c : Call} {s : State} {k : ℕ} → Begins c s k → step c s .state .status .pending ≡ Ending k
+begins-row (B.brings-unread h u) = brings-row h .read-first u
+begins-row (B.keeps-last {n} {b} {m} {s} l d) = A.last-row n b m s l .read-first d
+
+-- every row but Reset's is made with no INT
+
+brings-quiet : {c : Call} {s : State} {k : ℕ} → Brings c s k → Quiet s
+brings-quiet (B.completes o t g e h) = o .quiet
+brings-quiet (B.overruns o r e) = o .quiet
+brings-quiet (B.saves o t g e h) = o .quiet
+brings-quiet (B.aborts-connected e q r x) = q
+brings-quiet (B.cuts-info q x r e) = q
+brings-quiet (B.cuts-transfer q x r e) = q
+brings-quiet (B.spoils o r w c f h) = o .quiet
+brings-quiet (B.surprises o r w e) = o .quiet
+brings-quiet (B.leaves-info q x r e) = q
+brings-quiet (B.leaves-transfer q x r e d) = q
+
+because-raised : {c : Call} {s : State} {k : ℕ} → Because c s k → (isReset c s ≡ true) ⊎ (interrupted s ≡ false)
+because-raised (B.brings h u) = inr (ap isInterrupt (brings-quiet h))
+because-raised (B.reads (B.byte e d w p)) = inr (ap isInterrupt p)
+because-raised (B.reads (B.slice g f d v u p)) = inr (ap isInterrupt p)
+because-raised (B.resets e) = inl e
+because-raised (B.answers q x t) = inr (ap isInterrupt q)
+because-raised (B.resumes k e w q r x p) = inr (ap isInterrupt q)
+because-raised (B.takes-last l d) = inr (ap isInterrupt (l .offered .quiet))
+because-raised (B.aborts e q r x) = inr (ap isInterrupt q)
+because-raised (B.refuses k e n q r v) = inr (ap isInterrupt q)
+because-raised (B.times-out g q x t l) = inr (ap isInterrupt q)
+because-raised (B.reselects g q f x w) = inr (ap isInterrupt q)
+because-raised (B.frees q x r) = inr (ap isInterrupt q)
+because-raised (B.asks o r f) = inr (ap isInterrupt (o .quiet))
+
+-- sound
+
+reasoned : {c : Call} {s : State} {k : ℕ} {q : Pending} → Tells c s k q → isReset c s ≡ false → interrupted s ≡ false
+    → isInterrupt q ≡ true → Because c s k
+reasoned silent r i j = clash j i
+reasoned {q = q} (settles i p) r i' j = clash j (plain-int q p)
+reasoned (begins u h) r i j = clash j refl
+reasoned (raises i h) r i' j = h
+reasoned {s = s} (reads e) r i j = clash j (cleared-int (s .status .pending))
+reasoned (resets e) r i j = clash e r
+
+begun : {c : Call} {s : State} {k : ℕ} {q : Pending} (j : ℕ) → Tells c s k q → q ≡ Ending j → (s .status .pending ≡ Ending j) ⊎ Begins c s j
+begun j silent e = inl e
+begun j (settles {q = q} i p) e = clash p (ap isPlain e)
+begun {c} {s} j (begins {k = k} u h) e = inr (rw (code-of e) at h)
+  where
+    code-of : Ending k ≡ Ending j → k ≡ j
+    code-of e = cc
+begun j (raises i h) e = clash refl (ap isInterrupt e)
+begun {s = s} j (reads d) e = inl (ended-before (s .status .pending) e)
+  where
+    ended-before : (q : Pending) → withoutInterrupt q ≡ Ending j → q ≡ Ending j
+    ended-before Nothing e = e
+    ended-before Interrupt e = clash refl (ap isPlain e)
+    ended-before (Ending k) e = e
+    ended-before ReadOut e = e
+begun j (resets d) e = clash refl (ap isInterrupt e)
+
+pub raised-because : RaisedBecause step
+raised-because =
+    record {
+      sound = λ c s e.
+          by-test (isReset c s) (λ r. rw (reset-told c s r .0) (B.resets r))
+          (λ r. reasoned (told c s) r (raised-from-quiet c s r e) (raised-sets-int c s _ e));
+      complete = λ c s k h.
+          let i : interrupted (step c s .state) ≡ true = ap isInterrupt (because-row h .int) in
+          ⊎-elim (raised-reset c s (step c s .state) i) (raised-anew c s (step c s .state) i) (because-raised h);
+      code = λ c s k h. because-row h .code;
+    }
+
+pub ending-because : EndingBecause step
+ending-because = record { sound = λ c s k. begun k (told c s); complete = λ c s k. begins-row }
