@@ -1,17 +1,18 @@
 # The two commands of README.md are `make demo` and `make test`; both do all their set-up themselves.
-.PHONY: demo test lib native bench clean
+.PHONY: demo test outside lib native bench clean
 
 CC ?= gcc
 CFLAGS = -O2 -std=c11 -Wall -Wextra -Werror -Iinclude
 NATIVE = build/$(shell uname -m)-unknown-linux-gnu/libam33c93a.a
 CODE = crates.txt $(shell find crates -name '*.rt' -o -name '*.antt')
 
+# How many calls the differential run makes, and its seed.
+CALLS ?= 10000000
+SEED ?= 1
+
 # A host and a disk around the library, the bus story line by line.
 demo: build/board
 	@build/board
-
-build/board: examples/board.c include/am33c93a.h $(NATIVE)
-	@$(CC) $(CFLAGS) -o $@ $< $(NATIVE)
 
 # The static library for this machine's processor, and the one for x86-64.
 lib: $(NATIVE)
@@ -34,20 +35,36 @@ test:
 	@$(MAKE) --no-print-directory outside
 	@cat build/ci.log
 
-.PHONY: outside
-outside: build/refusals build/board
+# Tests of the compiled library: refusals at its boundary, the paper's sessions, and an independent model in C (bench/plain.c).
+outside: build/refusals build/sessions build/plain_sessions build/differential build/board
 	@build/refusals
-	@build/board > build/board.out
-	@tail -n 2 build/board.out
+	@build/plain_sessions
+	@build/sessions
+	@build/differential $(SEED) $(CALLS)
+	@build/board > build/board.out && tail -n 2 build/board.out
+
+build/board: examples/board.c include/am33c93a.h $(NATIVE)
+	@$(CC) $(CFLAGS) -o $@ $< $(NATIVE)
 
 build/refusals: tests/refusals.c include/am33c93a.h $(NATIVE)
 	@$(CC) $(CFLAGS) -o $@ $< $(NATIVE)
 
+build/sessions: tests/plain_sessions.c include/am33c93a.h $(NATIVE)
+	@$(CC) $(CFLAGS) -DLIBRARY -o $@ $< $(NATIVE)
+
+build/plain_sessions: tests/plain_sessions.c bench/plain.c bench/plain.h include/am33c93a.h
+	@mkdir -p build
+	@$(CC) $(CFLAGS) -o $@ $< bench/plain.c
+
+build/differential: tests/differential.c bench/plain.c bench/plain.h include/am33c93a.h $(NATIVE)
+	@$(CC) $(CFLAGS) -o $@ $< bench/plain.c $(NATIVE)
+
+# Nanoseconds for each call, and the ratio to the independent model over a struct.
 bench: build/bench
 	@build/bench
 
-build/bench: bench/bench.c include/am33c93a.h $(NATIVE)
-	@$(CC) $(CFLAGS) -o $@ $< $(NATIVE)
+build/bench: bench/bench.c bench/work.h bench/plain.c bench/plain.h include/am33c93a.h $(NATIVE)
+	@$(CC) $(CFLAGS) -o $@ $< bench/plain.c $(NATIVE)
 
 clean:
 	rm -rf build target
