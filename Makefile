@@ -14,12 +14,14 @@ SEED ?= 1
 demo: build/board
 	@build/board
 
-# The static library for this machine's processor, and the one for x86-64.
+# The static libraries: for this machine's processor, for x86-64 as rt itself builds it, and for a 64-bit Arm.
 lib: $(NATIVE)
-	@rt staticlib controller
+	@rt staticlib controller > /dev/null
 	@mkdir -p build/x86-64
 	@cp target/staticlib/libcontroller.a build/x86-64/libam33c93a.a
-	@echo $(NATIVE) build/x86-64/libam33c93a.a
+	@tools/native-lib aarch64-unknown-linux-gnu
+	@echo $(NATIVE)
+	@echo build/x86-64/libam33c93a.a
 
 native: $(NATIVE)
 

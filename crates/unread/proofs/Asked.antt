@@ -6,26 +6,26 @@
 --   open-event         an event that INT does not hold back
 --   completes-row saves-row overruns-row surprises-row spoils-row last-row asks-row   Requests
 --   info-free-row cuts-transfer-row leaves-transfer-row idle-free-row                 Free
-use mathlib.Core.Path.{_≡_, refl, sym, ap, ap₂, _∙_}
+use mathlib.Core.Path.{_≡_, refl, ap, ap₂, _∙_}
 use mathlib.Core.Bool.{Bool, true, false, not}
 use Prim.Native.Nat.{ℕ, _+_}
 use lib.Dec.{eqb}
 use borrow.Author.Tests.{not-true, not-false}
 use Rattle.chip.specs.Choice.{pick, both, either}
-use Rattle.chip.specs.Phases.{phaseOf, phaseNumber, comesIn, samePhase, isNoted, isMessageIn, isMessageOut, isCommandOut}
-use Rattle.chip.specs.Lines.{hsp, idi}
+use Rattle.chip.specs.Phases.{phaseOf, phaseNumber, comesIn, samePhase, isNoted, isMessageOut, isCommandOut}
+use Rattle.chip.specs.Lines.{idi}
 use Rattle.chip.specs.Fifo.{isEmpty, hasRoom}
-use Rattle.chip.specs.Count.{noneLeft, isLast, lowered}
-use Rattle.chip.specs.Interrupts.{interrupted, isInterrupt, isEnding, ends, endingWith, raise, outgoingDropped, withoutOutgoing, closed, unread, isIncoming, unlessInterrupt}
+use Rattle.chip.specs.Count.{noneLeft, lowered}
+use Rattle.chip.specs.Interrupts.{isInterrupt, isEnding, endingWith, raise, outgoingDropped, withoutOutgoing, closed, unread, isIncoming, unlessInterrupt}
 use Rattle.chip.specs.TransferInfo as I
 use Rattle.chip.specs.SelectAndTransfer as X
 use Rattle.chip.specs.Events as E
 use Rattle.chip.specs.Events.{isTransfer}
-use Rattle.chip.specs.Calls.{Call, Outcome, request, free, isGood, isSet, plain, step, carried}
+use Rattle.chip.specs.Calls.{Outcome, request, free, isGood, isSet, step, carried}
 use Rattle.chip.specs.declared.State.{State}
 use Rattle.chip.specs.declared.Reply.{Reply}
 use Rattle.chip.specs.declared.Connection.{Connection}
-use Rattle.chip.specs.declared.Connection.the-variants.{Disconnected, Selecting, Waiting, Connected}
+use Rattle.chip.specs.declared.Connection.the-variants.{Connected}
 use Rattle.chip.specs.declared.Running.{Running}
 use Rattle.chip.specs.declared.Running.the-variants.{Idle, SelectWithAtn, SelectWithoutAtn, TransferWithAtn, TransferWithoutAtn, TransferInfo}
 use Rattle.chip.specs.declared.Stage.{Stage}
@@ -36,9 +36,8 @@ use Rattle.chip.specs.declared.Phase.{Phase}
 use Rattle.chip.specs.declared.Phase.the-variants.{DataOut, DataIn, CommandOut, StatusIn, UnspecifiedOut, UnspecifiedIn, MessageOut, MessageIn}
 use Rattle.chip.specs.declared.Fifo.{Fifo}
 use Rattle.chip.specs.declared.Pending.{Pending}
-use Rattle.chip.specs.declared.Pending.the-variants.{Nothing, Interrupt, Ending}
-use Rattle.unread.specs.Because as B
-use Rattle.unread.specs.Because.{Quiet, Brings, Offered, LastMessage, isIdle, isOut, isSpent, stage, expects, expectsBody, expectsLate, wants, fits, halts, isBeforeStatus}
+use Rattle.chip.specs.declared.Pending.the-variants.{Interrupt, Ending}
+use Rattle.unread.specs.Because.{Quiet, Offered, LastMessage, isIdle, isOut, isSpent, stage, expects, expectsBody, expectsLate, wants, fits, halts, isBeforeStatus}
 use Rattle.unread.proofs.Choosing.{taken, passed-over, chosen, by-test, clash, both-first, both-second, not-first, second-fails, second-holds, only-second, neither-first, neither-second}
 use Rattle.unread.proofs.Bus.{remembered-keeps, info-wants, info-spent, by-stage, pushed}
 use Rattle.unread.proofs.Told.{good-step}
@@ -256,7 +255,8 @@ module _ (n b m : ℕ) (s : State) where
     late-halts MessageOut e = clash e refl
     late-halts MessageIn e = message-halts e
 
-    stage-halts : (g : Stage) (p : Phase) → expects g p b s ≡ true → comesIn p ≡ true → (samePhase p DataIn ≡ true → hasRoom (s .fifo) ≡ true)
+    stage-halts : (g : Stage) (p : Phase) → expects g p b s ≡ true → comesIn p ≡ true
+        → (samePhase p DataIn ≡ true → hasRoom (s .fifo) ≡ true)
         → X.requestAt g p b (isSet m) s ≡ I.halted s
     unfolding X.requestAt X.takeIdentify X.takeComplete X.completed expects
     stage-halts SendIdentify p e c f = clash c (message-goes-out p e)
@@ -314,7 +314,7 @@ module _ (n b m : ℕ) (s : State) where
       → Ended (I.overCode p s) (unread s) (step (request n b m) s .state)
   unfolding I.infoRequest I.infoOver unread
   over-row {p} o t w =
-      ended-by _ (info-reaches o t (passed-over _ _ (rw (← (info-wants n b m s t p)) w) ∙ open-event s _ (o .quiet))) refl
+      ended-by _ (info-reaches o t (passed-over _ _ (rw (← (info-wants p b s t)) w) ∙ open-event s _ (o .quiet))) refl
 
   pub overruns-row : {p : Phase} → Offered n b m p s → isIdle (s .transfer .running) ≡ false → isSpent s ≡ true
       → Ended (0x18 + phaseNumber p) (unread s) (step (request n b m) s .state)
@@ -322,7 +322,7 @@ module _ (n b m : ℕ) (s : State) where
   overruns-row {p} o r e =
       let t : s .transfer .running ≡ TransferInfo = informs _ r (not-true _ (both-first _ _ e)) in
       let l : noneLeft s ≡ true = both-second (not (isTransfer (s .transfer .running))) _ e in
-      rw l at (over-row o t (info-wants n b m s t p ∙ second-fails _ _ (rw l)))
+      rw l at (over-row o t (info-wants p b s t ∙ second-fails _ _ (rw l)))
 
   pub surprises-row : {p : Phase} → Offered n b m p s → isIdle (s .transfer .running) ≡ false → wants p b s ≡ false → isSpent s ≡ false
       → Ended (0x48 + phaseNumber p) (unread s) (step (request n b m) s .state)
@@ -331,9 +331,9 @@ module _ (n b m : ℕ) (s : State) where
       by-test (isTransfer (s .transfer .running))
       (λ t. ended-by _
       (transfer-reaches o t
-      (stage-surprises (stage s) p (rw (← (by-stage n b m s t (stage s) refl p)) w) ∙ open-event s _ (o .quiet)))
+      (stage-surprises (stage s) p (rw (← (by-stage p b s (stage s) t refl)) w) ∙ open-event s _ (o .quiet)))
       refl)
-      (λ t. let i : s .transfer .running ≡ TransferInfo = informs _ r t in rw (← (info-spent n b m s i), e) at (over-row o i w))
+      (λ t. let i : s .transfer .running ≡ TransferInfo = informs _ r t in rw (← (info-spent s i), e) at (over-row o i w))
 
   pub spoils-row : {p : Phase} → Offered n b m p s → isIdle (s .transfer .running) ≡ false → wants p b s ≡ true → comesIn p ≡ true
       → fits p s ≡ true → halts m s ≡ true → Ended 0x43 (unread s) (step (request n b m) s .state)
@@ -342,12 +342,12 @@ module _ (n b m : ℕ) (s : State) where
       by-test (isTransfer (s .transfer .running))
       (λ t. ended-by _
       (transfer-reaches o t
-      (stage-halts h (stage s) p (rw (← (by-stage n b m s t (stage s) refl p)) w) c (λ d. room (rw (t, d))) ∙ open-event s _ (o .quiet)))
+      (stage-halts h (stage s) p (rw (← (by-stage p b s (stage s) t refl)) w) c (λ d. room (rw (t, d))) ∙ open-event s _ (o .quiet)))
       refl)
       (λ t. let i : s .transfer .running ≡ TransferInfo = informs _ r t in
       ended-by _
       (info-reaches o i
-      (taken _ _ (rw (← (info-wants n b m s i p)) w) ∙ taken _ _ c ∙ taken _ _ (room (rw t)) ∙ halted h _ ∙ open-event s _ (o .quiet)))
+      (taken _ _ (rw (← (info-wants p b s i)) w) ∙ taken _ _ c ∙ taken _ _ (room (rw t)) ∙ halted h _ ∙ open-event s _ (o .quiet)))
       refl)
     where
       room : both (isTransfer (s .transfer .running)) (not (samePhase p DataIn)) ≡ false → hasRoom (s .fifo) ≡ true
@@ -359,7 +359,7 @@ module _ (n b m : ℕ) (s : State) where
   last-row l =
       ended-by _
       (info-reaches (l .offered) (l .runs)
-      (taken _ _ (rw (← (info-wants n b m s (l .runs) MessageIn)) (l .wanted)) ∙ taken _ _ refl ∙ taken _ _ (l .room)
+      (taken _ _ (rw (← (info-wants MessageIn b s (l .runs))) (l .wanted)) ∙ taken _ _ refl ∙ taken _ _ (l .room)
       ∙ unless-sound _ (l .sound) ∙ taken _ _ (l .last) ∙ open-event s _ (l .offered .quiet)))
       (second-holds _ _ (rw (pushed b (s .fifo) (l .room))))
 

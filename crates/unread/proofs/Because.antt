@@ -1,27 +1,25 @@
 -- The table of specs/Because.antt is sound and complete for the step.
 --   raised-because   a call raises a code exactly where the table says so, and that code
 --   ending-because   an ending begins exactly where the table says so
---   brings-row because-row   what each row says, the step does
-use mathlib.Core.Path.{_≡_, refl, sym, ap, _∙_}
-use mathlib.Core.Bool.{Bool, true, false}
+--   brings-row reads-row because-row   what each row says, the step does
+use mathlib.Core.Path.{_≡_, refl, ap}
+use mathlib.Core.Bool.{true, false}
 use mathlib.Core.Logic.{_⊎_, inl, inr, ⊎-elim}
 use Prim.Native.Nat.{ℕ}
-use Rattle.chip.specs.Choice.{both, either, pick}
-use Rattle.chip.specs.Count.{noneLeft}
+use Rattle.chip.specs.Choice.{pick}
 use Rattle.chip.specs.Interrupts.{interrupted, isInterrupt, withoutInterrupt, unread}
 use Rattle.chip.specs.TransferInfo.{infoFreeCode}
 use Rattle.chip.specs.Calls.{Call, step}
 use Rattle.chip.specs.declared.State.{State}
 use Rattle.chip.specs.declared.Pending.{Pending}
 use Rattle.chip.specs.declared.Pending.the-variants.{Nothing, Interrupt, Ending, ReadOut}
-use Rattle.unread.specs.Status.{isReset, raised}
+use Rattle.unread.specs.Status.{isReset}
 use Rattle.unread.specs.Because as B
 use Rattle.unread.specs.Because.{Quiet, Brings, Begins, ReadsOut, Because, RaisedBecause, EndingBecause}
 use Rattle.unread.proofs.Choosing.{by-test, clash}
-use Rattle.unread.proofs.Telling.{Tells, isPlain, silent, settles, begins, raises, reads, resets}
+use Rattle.unread.proofs.Telling.{plain-int, cleared-int, Standing, Tells, isPlain, silent, moves, selects, settles, begins, raises, reads, resets}
 use Rattle.unread.proofs.Told.{told, reset-told}
-use Rattle.unread.proofs.Unread.{raised-anew, raised-reset}
-use Rattle.unread.proofs.History.{plain-int, cleared-int, raised-from-quiet, raised-sets-int}
+use Rattle.unread.proofs.Unread.{raised-from-quiet, raised-sets-int, raised-anew, raised-reset}
 use Rattle.unread.proofs.Asked as A
 use Rattle.unread.proofs.Asked.{Raised, Ended}
 use Rattle.unread.proofs.Rows as W
@@ -41,16 +39,16 @@ brings-row (B.surprises {n} {b} {m} {p} {s} o r w e) = A.surprises-row n b m s o
 brings-row (B.leaves-info {s} q x r e) = rw e at (A.info-free-row s q x r)
 brings-row (B.leaves-transfer {s} q x r e d) = A.leaves-transfer-row s q x r e d
 
-reads-row : {c : Call} {s : State} {k : ℕ} → ReadsOut c s k → Raised k (step c s .state)
-reads-row (B.byte {c} {s} {k} e d w p) = W.reads-out-row c s k e d w p
-reads-row (B.slice {m} {l} {s} {k} g f d v u p) = W.moves-out-row m l s k g f d v u p
+pub reads-row : {c : Call} {s : State} {k : ℕ} → ReadsOut c s k → Ended k false (step c s .state)
+reads-row (B.byte {c} {s} {k} e d w p) = W.byte-row c s k e d w p
+reads-row (B.slice {m} {l} {s} {k} g f d v u p) = W.slice-row m l s k g f d v u p
 
 pub because-row : {c : Call} {s : State} {k : ℕ} → Because c s k → Raised k (step c s .state)
 because-row (B.brings h u) = brings-row h .raised-now u
-because-row (B.reads h) = reads-row h
+because-row (B.reads h) = reads-row h .raised-now refl
 because-row (B.resets {c} {s} e) = record { code = reset-told c s e .0; int = reset-told c s e .1 }
 because-row (B.answers {s} q x t) = W.answers-row s q x t
-because-row (B.resumes {c} {s} k e w q r x p) = W.resumes-row c s q r x p k e w
+because-row (B.resumes {c} {s} k e w q r x p) = W.resumes-row c s q r x p k e w .raised-now refl
 because-row (B.takes-last {n} {b} {m} {s} l d) = A.last-row n b m s l .raised-now d
 because-row (B.aborts {c} {s} e q r x) = W.aborts-row c s q r e x
 because-row (B.refuses {c} {s} k e n q r v) = W.refuses-row c s q r k e n v
@@ -94,38 +92,42 @@ because-raised (B.asks o r f) = inr (ap isInterrupt (o .quiet))
 
 -- sound
 
-reasoned : {c : Call} {s : State} {k : ℕ} {q : Pending} → Tells c s k q → isReset c s ≡ false → interrupted s ≡ false
-    → isInterrupt q ≡ true → Because c s k
-reasoned silent r i j = clash j i
-reasoned {q = q} (settles i p) r i' j = clash j (plain-int q p)
-reasoned (begins u h) r i j = clash j refl
-reasoned (raises i h) r i' j = h
-reasoned {s = s} (reads e) r i j = clash j (cleared-int (s .status .pending))
-reasoned (resets e) r i j = clash e r
+reasoned : {c : Call} {s : State} {z : Standing} → Tells c s z → isReset c s ≡ false → interrupted s ≡ false
+    → isInterrupt (z .pending) ≡ true → Because c s (z .code)
+reasoned (silent a) r i j = clash j i
+reasoned (moves x) r i j = clash j i
+reasoned (selects e q n) r i j = clash j i
+reasoned (settles {q = q} i p x) r i' j = clash j (plain-int q p)
+reasoned (begins u h x) r i j = clash j refl
+reasoned (raises i h x) r i' j = h
+reasoned {s = s} (reads e a) r i j = clash j (cleared-int (s .status .pending))
+reasoned (resets e x) r i j = clash e r
 
-begun : {c : Call} {s : State} {k : ℕ} {q : Pending} (j : ℕ) → Tells c s k q → q ≡ Ending j → (s .status .pending ≡ Ending j) ⊎ Begins c s j
-begun j silent e = inl e
-begun j (settles {q = q} i p) e = clash p (ap isPlain e)
-begun {c} {s} j (begins {k = k} u h) e = inr (rw (code-of e) at h)
+begun : {c : Call} {s : State} {z : Standing} (j : ℕ) → Tells c s z → z .pending ≡ Ending j → (s .status .pending ≡ Ending j) ⊎ Begins c s j
+begun j (silent a) e = inl e
+begun j (moves x) e = inl e
+begun j (selects f q n) e = inl e
+begun j (settles i p x) e = clash p (ap isPlain e)
+begun {c} {s} j (begins {k = k} u h x) e = inr (rw (code-of e) at h)
   where
     code-of : Ending k ≡ Ending j → k ≡ j
     code-of e = cc
-begun j (raises i h) e = clash refl (ap isInterrupt e)
-begun {s = s} j (reads d) e = inl (ended-before (s .status .pending) e)
+begun j (raises i h x) e = clash refl (ap isInterrupt e)
+begun {s = s} j (reads d a) e = inl (ended-before (s .status .pending) e)
   where
     ended-before : (q : Pending) → withoutInterrupt q ≡ Ending j → q ≡ Ending j
     ended-before Nothing e = e
     ended-before Interrupt e = clash refl (ap isPlain e)
     ended-before (Ending k) e = e
     ended-before ReadOut e = e
-begun j (resets d) e = clash refl (ap isInterrupt e)
+begun j (resets d x) e = clash refl (ap isInterrupt e)
 
 pub raised-because : RaisedBecause step
 raised-because =
     record {
       sound = λ c s e.
           by-test (isReset c s) (λ r. rw (reset-told c s r .0) (B.resets r))
-          (λ r. reasoned (told c s) r (raised-from-quiet c s r e) (raised-sets-int c s _ e));
+          (λ r. reasoned (told c s .tells) r (raised-from-quiet c s r e) (raised-sets-int c s _ e));
       complete = λ c s k h.
           let i : interrupted (step c s .state) ≡ true = ap isInterrupt (because-row h .int) in
           ⊎-elim (raised-reset c s (step c s .state) i) (raised-anew c s (step c s .state) i) (because-raised h);
@@ -133,4 +135,4 @@ raised-because =
     }
 
 pub ending-because : EndingBecause step
-ending-because = record { sound = λ c s k. begun k (told c s); complete = λ c s k. begins-row }
+ending-because = record { sound = λ c s k. begun k (told c s .tells); complete = λ c s k. begins-row }

@@ -4,14 +4,15 @@
 --   taken passed-over   the choice, where its test is known
 --   by-test     what follows where a test holds, and where it does not, follows
 --   clash       a test does not both hold and fail
---   both-first both-second both-holds   both tests hold
+--   both-first both-second   both tests hold
 --   not-first   of two tests that do not both hold, the first fails where the second holds
 --   second-fails second-holds   they do not, where the second fails; where it holds, the first decides
 --   only-first only-second   of two tests one of which holds, it is the first, or the second, where the other fails
 --   neither-first neither-second        neither test holds
 --   one-of      what holds of two numbers holds of the one that is tested to be one of them
+--   one-or      .. of one number, or by another test
 use mathlib.Core.Path.{_≡_, refl, sym, _∙_}
-use mathlib.Core.Bool.{Bool, true, false, not, true≢false}
+use mathlib.Core.Bool.{Bool, true, false, true≢false}
 use Prim.Native.Nat.{ℕ}
 use lib.Dec.{eqb}
 use borrow.Author.Tests.{eqb-true}
@@ -52,10 +53,6 @@ unfolding both
 both-second true y e = e
 both-second false y e = clash e refl
 
-pub both-holds : (x y : Bool) → x ≡ true → y ≡ true → both x y ≡ true
-unfolding both
-both-holds x y e f = rw (e, f)
-
 pub not-first : (x y : Bool) → both x y ≡ false → y ≡ true → x ≡ false
 unfolding both
 not-first true y e f = clash f e
@@ -91,6 +88,8 @@ unfolding either
 neither-second true y e = clash refl e
 neither-second false y e = e
 
+pub one-or : (P : ℕ → Type 0) (i k : ℕ) (t : Bool) → either (eqb k i) t ≡ true → P i → (t ≡ true → P k) → P k
+one-or P i k t e x y = by-test (eqb k i) (λ f. rw (eqb-true k i f) x) (λ f. y (only-second (eqb k i) t e f))
+
 pub one-of : (P : ℕ → Type 0) (i j k : ℕ) → either (eqb k i) (eqb k j) ≡ true → P i → P j → P k
-one-of P i j k e x y =
-    by-test (eqb k i) (λ f. rw (eqb-true k i f) x) (λ f. rw (eqb-true k j (only-second (eqb k i) (eqb k j) e f)) y)
+one-of P i j k e x y = one-or P i k (eqb k j) e x (λ f. rw (eqb-true k j f) y)

@@ -1,27 +1,24 @@
 -- The law of specs/History.antt holds of the step.
 --   no-status-lost   over every list of calls, from every state
+--   ran              `run` of the step is the chip's `after`
 --   code-after       the code at 17h after any calls from a fresh state is the one raised last, 0 where none was
 --   int-after        INT is set exactly while that one waits to be read
 use mathlib.Core.Path.{_≡_, refl, sym, ap, _∙_}
-use mathlib.Core.Bool.{Bool, true, false, not}
+use mathlib.Core.Bool.{Bool, true, false}
 use mathlib.Core.List.{List, [], _∷_, _++_}
 use Prim.Native.Nat.{ℕ}
-use lib.Dec.{eqb}
-use borrow.Author.Tests.{eq-eqb}
-use Rattle.chip.specs.Choice.{both, either}
+use Rattle.chip.specs.Choice.{either}
 use Rattle.chip.specs.State.{fresh}
-use Rattle.chip.specs.Interrupts.{interrupted, isInterrupt, withoutInterrupt}
+use Rattle.chip.specs.Interrupts.{interrupted, isInterrupt}
 use Rattle.chip.specs.Calls.{Call, Outcome, step, after}
 use Rattle.chip.specs.declared.State.{State}
-use Rattle.chip.specs.declared.Pending.{Pending}
-use Rattle.chip.specs.declared.Pending.the-variants.{Nothing, Interrupt, Ending, ReadOut}
-use Rattle.unread.specs.Status.{isReset, readsAt, raised}
+use Rattle.unread.specs.Status.{isReset, readsAt}
 use Rattle.unread.specs.History as H
 use Rattle.unread.specs.History.{Happening, noted, history, run, lastCode, isUnread, Orderly, isRaising, hasRead, NoStatusLost}
-use Rattle.unread.proofs.Choosing.{chosen-if, by-test, clash, both-first, both-second}
-use Rattle.unread.proofs.Telling.{Tells, isPlain, silent, settles, begins, raises, reads, resets}
+use Rattle.unread.proofs.Choosing.{chosen-if, clash}
+use Rattle.unread.proofs.Telling.{plain-int, cleared-int, Standing, Tells, silent, moves, selects, settles, begins, raises, reads, resets}
 use Rattle.unread.proofs.Told.{told, reset-told, ReadTold, blind, read, status-read}
-use Rattle.unread.proofs.Unread.{unread-status-kept, raised-anew}
+use Rattle.unread.proofs.Unread.{raised-from-quiet, raised-sets-int, raised-anew}
 
 -- what the happenings h of one call say of the states before and after it
 data Follows (s t : State) : List Happening → Type 0 where
@@ -30,40 +27,18 @@ data Follows (s t : State) : List Happening → Type 0 where
   raise : interrupted s ≡ false → interrupted t ≡ true → Follows s t (H.raises (t .status .code) ∷ [])
   told-code : t .status .code ≡ s .status .code → interrupted t ≡ false → Follows s t (H.reads (s .status .code) ∷ [])
 
-pub plain-int : (q : Pending) → isPlain q ≡ true → isInterrupt q ≡ false
-plain-int Nothing e = refl
-plain-int Interrupt e = clash e refl
-plain-int (Ending k) e = refl
-plain-int ReadOut e = refl
-
-pub cleared-int : (q : Pending) → isInterrupt (withoutInterrupt q) ≡ false
-cleared-int Nothing = refl
-cleared-int Interrupt = refl
-cleared-int (Ending k) = refl
-cleared-int ReadOut = refl
-
--- a code raised other than by Reset was raised with no INT before
-pub raised-from-quiet : (c : Call) (s : State) → isReset c s ≡ false → raised c s (step c s .state) ≡ true → interrupted s ≡ false
-unfolding raised both either
-raised-from-quiet c s r e =
-    by-test (interrupted s)
-    (λ i. let k : eqb (step c s .state .status .code) (s .status .code) ≡ true = eq-eqb _ _ (unread-status-kept .code-kept c s i r) in
-    clash (both-second (interrupted (step c s .state)) _ (rw (i, k, r) at e)) refl)
-    (λ i. i)
-
-pub raised-sets-int : (c : Call) (s t : State) → raised c s t ≡ true → interrupted t ≡ true
-unfolding raised
-raised-sets-int c s t e = both-first _ _ e
-
 -- a call that is no Reset, raises nothing and does not read 17h leaves the code and INT
-untouched : {c : Call} {s : State} {k : ℕ} {q : Pending} → Tells c s k q → isReset c s ≡ false → readsAt 0x17 c s ≡ false
-    → (interrupted s ≡ false → isInterrupt q ≡ true → ⊥) → (k ≡ s .status .code) × (isInterrupt q ≡ interrupted s)
-untouched silent r d n = (refl, refl)
-untouched {q = q} (settles i p) r d n = (refl, plain-int q p ∙ sym i)
-untouched (begins u h) r d n = (refl, rw u)
-untouched (raises i h) r d n = absurd (n i refl)
-untouched (reads e) r d n = clash e d
-untouched (resets e) r d n = clash e r
+untouched : {c : Call} {s : State} {z : Standing} → Tells c s z → isReset c s ≡ false → readsAt 0x17 c s ≡ false
+    → (interrupted s ≡ false → isInterrupt (z .pending) ≡ true → ⊥)
+    → (z .code ≡ s .status .code) × (isInterrupt (z .pending) ≡ interrupted s)
+untouched (silent a) r d n = (refl, refl)
+untouched (moves x) r d n = (refl, refl)
+untouched (selects e q m) r d n = (refl, refl)
+untouched (settles {q = q} i p x) r d n = (refl, plain-int q p ∙ sym i)
+untouched (begins u h x) r d n = (refl, rw u)
+untouched (raises i h x) r d n = absurd (n i refl)
+untouched (reads e a) r d n = clash e d
+untouched (resets e x) r d n = clash e r
 
 read-follows : {s : State} {o : Outcome} → ReadTold s o → Follows s (o .state) (H.readBy (o .answer))
 read-follows (blind a k q) = rw a (still k (ap isInterrupt q))
@@ -76,7 +51,7 @@ follows c s =
     (λ r. chosen-if (Follows s (step c s .state)) _
     (λ e. raise (raised-from-quiet c s r e) (raised-sets-int c s _ e))
     (λ n. chosen-if (Follows s (step c s .state)) _ (λ d. read-follows (status-read c s d))
-    (λ d. let u = untouched (told c s) r d (λ j i. clash (raised-anew c s _ i j) n) in still (u .0) (u .1))))
+    (λ d. let u = untouched (told c s .tells) r d (λ j i. clash (raised-anew c s _ i j) n) in still (u .0) (u .1))))
 
 -- an orderly history, with what one call did before it
 preceded : {s t : State} {h l : List Happening} → Follows s t h → Orderly (t .status .code) (interrupted t) l
@@ -128,7 +103,8 @@ later (H.raises j ∷ g) h (H.raising o) = later g h o
 later (H.resets ∷ g) h (H.resetting o) = later g h o
 later (H.reads v ∷ g) h (H.reading o) = later g h o
 
-after-raising : {k : ℕ} {w : Bool} {h : List Happening} (x : Happening) → isRaising x ≡ true → Orderly k w (x ∷ h) → (j : ℕ) × Orderly j true h
+after-raising : {k : ℕ} {w : Bool} {h : List Happening} (x : Happening) → isRaising x ≡ true → Orderly k w (x ∷ h)
+    → (j : ℕ) × Orderly j true h
 after-raising (H.raises j) e (H.raising o) = (j, o)
 after-raising H.resets e (H.resetting o) = (0x00, o)
 after-raising (H.reads v) e o = clash e refl
@@ -146,7 +122,7 @@ no-status-lost =
 
 -- from a fresh state, in the words of the chip's `after`
 
-ran : (l : List Call) (s : State) → run step l s ≡ after l s
+pub ran : (l : List Call) (s : State) → run step l s ≡ after l s
 unfolding run after
 ran [] s = refl
 ran (c ∷ l) s = ran l (step c s .state)

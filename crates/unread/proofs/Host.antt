@@ -2,45 +2,45 @@
 --   commanded-tells   a command
 --   accessed-tells    a register access
 --   block-tells block-written-tells   a block
---   Drains            what some reads of the Data register leave: nothing new, or the end of a read-out
---   block-drains      .. of a block
---   some-wait none-wait holds-some one-less   how many bytes wait
+--   some-wait holds-some one-less     how many bytes wait
 use mathlib.Core.Path.{_≡_, refl, sym, ap, _∙_}
 use mathlib.Core.Bool.{Bool, true, false, not}
 use mathlib.Core.List.{List, [], _∷_}
-use Prim.Native.Nat.{ℕ, suc, _+_, _-_, _<_, _≤_}
+use Prim.Native.Nat.{ℕ, zero, suc, _-_, _<_, _≤_}
 use native.Mathlib.Omega.{arith}
-use lib.Dec.{eqb, ltb, leb}
-use lib.ListN.{length}
+use lib.Dec.{eqb}
+use lib.ListN.{length, getD, drop}
 use borrow.Author.Tests.{eqb-true, eqb-false, eq-eqb, ne-eqb, not-true}
 use Rattle.chip.specs.Choice.{pick, both, either}
-use Rattle.chip.specs.Phases.{phaseNumber}
-use Rattle.chip.specs.Lines.{codeOf, isSingle}
-use Rattle.chip.specs.Interrupts.{interrupted, ends, isEnding, busy, isRunning, endingWith, raise, settled, settledBy, unread, isIncoming}
+use Rattle.chip.specs.Lines.{codeOf}
+use Rattle.chip.specs.Interrupts.{interrupted, ends, isEnding, busy, isRunning, raise, outgoingDropped, settled, settledBy, unread, isIncoming}
 use Rattle.chip.specs.Count.{loaded, loadedInfo}
 use Rattle.chip.specs.SelectAndTransfer.{resumed, fromDisconnected}
-use Rattle.chip.specs.Commands.{isConnected, isValid, isReady, isPlace, isTwo, isRefusedBusy, entryOf, table, reset, aborted, disconnected, selecting, transferring, informing, carriedOut, accepted, commanded, abortPhase}
+use Rattle.chip.specs.Commands.{isValid, isReady, isPlace, isTwo, isRefusedBusy, leftOut, entryOf, table, reset, aborted, disconnected, selecting, transferring, informing, carriedOut, accepted, commanded}
 use Rattle.chip.specs.Calls.{Call, register, block, isGood, isSet}
 use Rattle.chip.specs.State.{setFifo, setPending, setConnection}
 use Rattle.chip.specs.Fifo.{isEmpty, pop, waits}
 use Rattle.chip.specs.TransferInfo.{dbr}
-use Rattle.chip.specs.Registers.{Moved, goOn, dataRead, dataReadBy, dataWritten, dataWrittenBy, blockRead, blockWritten, stored, readAt, writtenAt, accessedAt, accessed, stepped, isBlind}
+use Rattle.chip.specs.Registers.{Moved, goOn, dataRead, dataReadBy, dataWritten, dataWrittenBy, blockRead, blockWritten, stored, readAt, writtenAt, accessedAt, accessed, stepped}
 use Rattle.chip.specs.declared.State.{State}
 use Rattle.chip.specs.declared.Fifo.{Fifo}
 use Rattle.chip.specs.declared.Answer.{Answer}
 use Rattle.chip.specs.declared.Answer.the-variants.{Done, Held, OutOfPlace, BadNumber, Blind, CommandIgnored, ReselectionIgnored, NoDataNow, Reported}
 use Rattle.chip.specs.declared.Pending.{Pending}
 use Rattle.chip.specs.declared.Pending.the-variants.{Nothing, Interrupt, Ending, ReadOut}
-use Rattle.chip.specs.declared.Connection.the-variants.{Waiting}
+use Rattle.chip.specs.declared.Entry.{Entry}
+use Rattle.chip.specs.declared.Connection.{Connection}
+use Rattle.chip.specs.declared.Connection.the-variants.{Disconnected, Selecting, Waiting, Connected}
 use Rattle.chip.specs.declared.Direction.{Direction}
 use Rattle.chip.specs.declared.Direction.the-variants.{Unfixed, In, Out}
 use Rattle.chip.specs.declared.Reply.{Reply}
 use Rattle.chip.specs.declared.Running.{Running}
-use Rattle.unread.specs.Status.{isCommand, isReset, readsAt}
+use Rattle.chip.specs.declared.Running.the-variants.{Idle}
+use Rattle.unread.specs.Status.{isCommand, isReset, isSelection, isAnswer, readsAt}
 use Rattle.unread.specs.Because as B
-use Rattle.unread.specs.Because.{Quiet, Because, Brings}
-use Rattle.unread.proofs.Choosing.{chosen, chosen-if, by-test, clash, both-first, both-second, both-holds, not-first, only-first, neither-first, neither-second, one-of}
-use Rattle.unread.proofs.Telling.{Tells, ToldState, ToldReply, silent, settles, begins, raises, reads, resets, unless-int, ended, brought, quiet-of, is-connected}
+use Rattle.unread.specs.Because.{Quiet, Because}
+use Rattle.unread.proofs.Choosing.{chosen, chosen-if, by-test, clash, both-first, both-second, not-first, only-first, neither-first, neither-second, one-or, one-of}
+use Rattle.unread.proofs.Telling.{connected-apart, Standing, standing, isSelecting, Tells, ToldState, so, ToldReply, silent, moves, selects, settles, raises, reads, resets, gone, there, ended, brought, quiet-of, is-connected}
 
 -- commands
 
@@ -57,12 +57,53 @@ invalid-idle : (k : ℕ) (s : State) → isRefusedBusy k s ≡ false → isValid
 unfolding isRefusedBusy either
 invalid-idle k s r v = not-first (busy s) _ r (by-test (isTwo (entryOf k .level)) (λ e. rw e) (λ e. rw (e, v)))
 
--- nor does anything run where a Select-And-Transfer is not refused so
-transfer-idle : (k : ℕ) (s : State) → either (eqb k 0x08) (eqb k 0x09) ≡ true → isRefusedBusy k s ≡ false → busy s ≡ false
+-- the four commands that select
+isSelect : ℕ → Bool
+isSelect k = either (eqb k 0x06) (either (eqb k 0x07) (either (eqb k 0x08) (eqb k 0x09)))
+
+each-select : (P : ℕ → Type 0) (k : ℕ) → isSelect k ≡ true → P 0x06 → P 0x07 → P 0x08 → P 0x09 → P k
+unfolding isSelect
+each-select P k e x y z w = one-or P 0x06 k _ e x (λ f. one-or P 0x07 k _ f y (λ g. one-of P 0x08 0x09 k g z w))
+
+-- nor does anything run where one that selects is not refused so
+select-idle : (k : ℕ) (s : State) → isSelect k ≡ true → isRefusedBusy k s ≡ false → busy s ≡ false
 unfolding isRefusedBusy either entryOf table
-transfer-idle k s w =
-    one-of (λ (j : ℕ). isRefusedBusy j s ≡ false → busy s ≡ false) 0x08 0x09 k w (λ r. not-first (busy s) _ r refl)
-    (λ r. not-first (busy s) _ r refl)
+select-idle k s w = each-select (λ (j : ℕ). isRefusedBusy j s ≡ false → busy s ≡ false) k w free-of free-of free-of free-of
+  where
+    free-of : both (busy s) true ≡ false → busy s ≡ false
+    free-of r = not-first (busy s) _ r refl
+
+transfer-selects : (k : ℕ) → either (eqb k 0x08) (eqb k 0x09) ≡ true → isSelect k ≡ true
+unfolding isSelect either
+transfer-selects k w = one-of (λ (j : ℕ). isSelect j ≡ true) 0x08 0x09 k w refl refl
+
+-- no command but Reset and Abort is valid while selecting
+
+isBarred : Entry → Bool
+isBarred e = not (isPlace (e .place) Selecting)
+
+allBarred : List Entry → Bool
+allBarred [] = true
+allBarred (e ∷ l) = both (isBarred e) (allBarred l)
+
+each-barred : (l : List Entry) → allBarred l ≡ true → (k : ℕ) → isBarred (getD l k leftOut) ≡ true
+unfolding allBarred isBarred
+each-barred [] e k = refl
+each-barred (x ∷ l) e zero = both-first _ _ e
+each-barred (x ∷ l) e (suc k) = each-barred l (both-second (isBarred x) _ e) k
+
+valid-apart : (k : ℕ) (s : State) → eqb k 0x00 ≡ false → eqb k 0x01 ≡ false → isValid k s ≡ true
+    → isSelecting (s .wire .connection) ≡ false
+unfolding isValid entryOf table allBarred isBarred both either
+valid-apart zero s n o v = clash refl n
+valid-apart (suc zero) s n o v = clash refl o
+valid-apart (suc (suc k)) s n o v = by-connection (s .wire .connection) (both-first _ _ v)
+  where
+    by-connection : (x : Connection) → isPlace (entryOf (suc (suc k)) .place) x ≡ true → isSelecting x ≡ false
+    by-connection Disconnected e = refl
+    by-connection Selecting e = clash e (not-true _ (each-barred (drop 2 table) refl k))
+    by-connection Waiting e = refl
+    by-connection Connected e = refl
 
 -- a valid Abort: a command runs, and no ending is under way
 abort-ready : (k : ℕ) (s : State) → eqb k 0x01 ≡ true → isValid k s ≡ true → both (busy s) (not (ends s)) ≡ true
@@ -76,7 +117,9 @@ abort-runs : (k : ℕ) (s : State) → eqb k 0x01 ≡ true → isValid k s ≡ t
 unfolding busy
 abort-runs k s e v = only-first _ (ends s) (both-first (busy s) _ (abort-ready k s e v)) (abort-ends k s e v)
 
-module _ (m b : ℕ) (s : State) (good : isGood (register m b) ≡ true) (set : isSet m ≡ true) (at : eqb (s .status .pointer) 0x18 ≡ true) where
+module _
+    (m b : ℕ) (s : State) (good : isGood (register m b) ≡ true) (set : isSet m ≡ true)
+    (at : eqb (s .status .pointer) 0x18 ≡ true) where
   abbrev Told : State → Type 0
   Told t = ToldState (register m b) s t
 
@@ -87,37 +130,53 @@ module _ (m b : ℕ) (s : State) (good : isGood (register m b) ≡ true) (set : 
   own-code : isCommand (codeOf b) (register m b) s ≡ true
   own-code = is-command (codeOf b) (eq-eqb (codeOf b) (codeOf b) refl)
 
+  still : Tells (register m b) s (standing s)
+  still = silent (λ q. refl)
+
+  is-selection : isSelect (codeOf b) ≡ true → isSelection (register m b) s ≡ true
+  unfolding isSelection isCommand isSelect both
+  is-selection e = rw (good, set, at, e)
+
   module _ (i : interrupted s ≡ false) where
     aborted-tells : eqb (codeOf b) 0x01 ≡ true → isValid (codeOf b) s ≡ true → Told (aborted (accepted b s))
-    unfolding aborted accepted raise unread
+    unfolding aborted accepted raise outgoingDropped unread
     aborted-tells e v =
+        let q : Quiet s = quiet-of _ i (abort-ends _ s e v) in
         chosen-if Told _
-        (λ x. brought _ refl refl (quiet-of _ i (abort-ends _ s e v))
-        (B.aborts-connected (is-command 0x01 e) (quiet-of _ i (abort-ends _ s e v)) (abort-runs _ s e v) (is-connected _ x)))
-        (λ x. raises i (B.aborts (is-command 0x01 e) (quiet-of _ i (abort-ends _ s e v)) (abort-runs _ s e v) x))
+        (λ x. brought _ refl (connected-apart (s .wire .connection) x) refl q
+        (B.aborts-connected (is-command 0x01 e) q (abort-runs _ s e v) (is-connected _ x)))
+        (λ x. so (raises i (B.aborts (is-command 0x01 e) q (abort-runs _ s e v) x) (gone refl)))
 
-    transferring-tells : (r : Running) → either (eqb (codeOf b) 0x08) (eqb (codeOf b) 0x09) ≡ true → isRefusedBusy (codeOf b) s ≡ false
-        → Told (transferring r (accepted b s))
+    select-quiet : isSelect (codeOf b) ≡ true → isRefusedBusy (codeOf b) s ≡ false → Quiet s
+    select-quiet w f = quiet-of _ i (not-busy-ends s (select-idle (codeOf b) s w f))
+
+    transferring-tells : (r : Running) → isRunning r ≡ true → either (eqb (codeOf b) 0x08) (eqb (codeOf b) 0x09) ≡ true
+        → isRefusedBusy (codeOf b) s ≡ false → Told (transferring r (accepted b s))
     unfolding transferring resumed accepted selecting fromDisconnected loaded unread both
-    transferring-tells r w f =
-        let idle : busy s ≡ false = transfer-idle (codeOf b) s w f in
+    transferring-tells r n w f =
+        let v : isSelect (codeOf b) ≡ true = transfer-selects (codeOf b) w in
+        let q : Quiet s = select-quiet v f in
         chosen-if Told _
         (λ x. chosen-if Told _
-        (λ h. ended _ refl (quiet-of _ i (not-busy-ends s idle)) (λ u. clash u refl)
-        (λ u. B.resumes (codeOf b) own-code w (quiet-of _ i (not-busy-ends s idle)) (not-busy-runs s idle) (is-connected _ x) (eqb-true _ _ h)))
-        (λ h. silent))
-        (λ x. silent)
+        (λ h. ended _ refl (connected-apart (s .wire .connection) x) q (λ u. clash u refl)
+        (λ u. B.resumes (codeOf b) own-code w q (not-busy-runs s (select-idle (codeOf b) s v f)) (is-connected _ x) (eqb-true _ _ h)))
+        (λ h. so (moves (connected-apart (s .wire .connection) x))))
+        (λ x. so (selects (is-selection v) q n))
 
-    carried-tells : (single : Bool) → isRefusedBusy (codeOf b) s ≡ false → isValid (codeOf b) s ≡ true → Told (carriedOut (codeOf b) single (accepted b s))
-    unfolding carriedOut accepted disconnected selecting informing loadedInfo either
-    carried-tells single r v =
+    carried-tells : (single : Bool) → eqb (codeOf b) 0x00 ≡ false → isRefusedBusy (codeOf b) s ≡ false → isValid (codeOf b) s ≡ true
+        → Told (carriedOut (codeOf b) single (accepted b s))
+    unfolding carriedOut accepted disconnected selecting informing loadedInfo isSelect either
+    carried-tells single n0 r v =
         chosen-if Told _ (λ e. aborted-tells e v)
-        (λ n1. chosen Told _ silent
-        (chosen Told _ silent
-        (chosen Told _ (settles i refl)
-        (chosen Told _ silent
-        (chosen Told _ silent
-        (chosen-if Told _ (λ e. transferring-tells _ (rw e) r) (λ n8. (chosen-if Told _ (λ e. transferring-tells _ (rw (n8, e)) r) (λ n9. chosen Told _ silent silent)))))))))
+        (λ n1. let z : isSelecting (s .wire .connection) ≡ false = valid-apart (codeOf b) s n0 n1 v in
+        chosen Told _ (so (moves z))
+        (chosen Told _ (so (moves z))
+        (chosen Told _ (so (settles i refl refl))
+        (chosen-if Told _ (λ e. let w : isSelect (codeOf b) ≡ true = rw e in so (selects (is-selection w) (select-quiet w r) refl))
+        (λ n6. chosen-if Told _ (λ e. let w : isSelect (codeOf b) ≡ true = rw (n6, e) in so (selects (is-selection w) (select-quiet w r) refl))
+        (λ n7. chosen-if Told _ (λ e. transferring-tells _ refl (rw e) r)
+        (λ n8. chosen-if Told _ (λ e. transferring-tells _ refl (rw (n8, e)) r)
+        (λ n9. chosen Told _ (so (moves z)) (so (moves z))))))))))
 
   is-reset : eqb (codeOf b) 0x00 ≡ true → isReset (register m b) s ≡ true
   unfolding isReset
@@ -126,13 +185,13 @@ module _ (m b : ℕ) (s : State) (good : isGood (register m b) ≡ true) (set : 
   pub commanded-tells : ToldReply (register m b) s (commanded b s)
   unfolding commanded reset accepted
   commanded-tells =
-      chosen-if (ToldReply (register m b) s) _ (λ e. resets (is-reset e))
-      (λ n. chosen-if (ToldReply (register m b) s) _ (λ i. silent)
-      (λ i. chosen-if (ToldReply (register m b) s) _ (λ r. silent)
-      (λ r. chosen-if (ToldReply (register m b) s) _ (carried-tells i _ r)
-      (λ v. raises i
-      (B.refuses (codeOf b) own-code n (quiet-of _ i (not-busy-ends s (invalid-idle _ s r v)))
-      (not-busy-runs s (invalid-idle _ s r v)) v)))))
+      chosen-if (ToldReply (register m b) s) _ (λ e. so (resets (is-reset e) refl))
+      (λ n. chosen-if (ToldReply (register m b) s) _ (λ i. (so still))
+      (λ i. chosen-if (ToldReply (register m b) s) _ (λ r. (so still))
+      (λ r. chosen-if (ToldReply (register m b) s) _ (carried-tells i _ n r)
+      (λ v. let idle : busy s ≡ false = invalid-idle _ s r v in
+      so (raises i (B.refuses (codeOf b) own-code n (quiet-of _ i (not-busy-ends s idle)) (not-busy-runs s idle) v)
+      (there (λ q. not-busy-runs s idle)))))))
 
 -- the Data register
 
@@ -144,18 +203,20 @@ data Pops (s : State) : State → Type 0 where
       → Pops s (raise k (setFifo (pop (s .fifo)) s))
   wait-read : s .status .pending ≡ ReadOut → Pops s (setConnection Waiting (setPending Nothing (setFifo (pop (s .fifo)) s)))
 
--- at most n reads of the Data register, made in s, leave the code k and the pending q
-pub data Drains (n : ℕ) (s : State) : ℕ → Pending → Type 0 where
-  drains-nothing : Drains n s (s .status .code) (s .status .pending)
-  drains-wait : s .status .pending ≡ ReadOut → Drains n s (s .status .code) Nothing
+-- at most n reads of the Data register, made in s, leave z
+data Drains (n : ℕ) (s : State) : Standing → Type 0 where
+  drains-nothing : Drains n s (standing s)
+  drains-wait : s .status .pending ≡ ReadOut
+      → Drains n s (record { code = s .status .code; pending = Nothing; connection = Waiting; running = s .transfer .running })
   drains-ending : {k : ℕ} → isIncoming (s .transfer .direction) ≡ true → 0 < waits (s .fifo) → waits (s .fifo) ≤ n
-      → s .status .pending ≡ Ending k → Drains n s k Interrupt
+      → s .status .pending ≡ Ending k
+      → Drains n s (record { code = k; pending = Interrupt; connection = s .wire .connection; running = Idle })
 
 pub some-wait : (q : Fifo) → isEmpty q ≡ false → 0 < waits q
 unfolding isEmpty waits
 some-wait q e = omega (arith, eqb-false (q .held) 0 e)
 
-pub none-wait : (q : Fifo) → isEmpty q ≡ true → waits q ≡ 0
+none-wait : (q : Fifo) → isEmpty q ≡ true → waits q ≡ 0
 unfolding isEmpty waits
 none-wait q e = eqb-true (q .held) 0 e
 
@@ -198,8 +259,8 @@ pops s = by-way _ refl
     by-way Out d = nothing-read
 
 -- one read, and then at most n
-then : {n : ℕ} {s t : State} {k : ℕ} {q : Pending} → Pops s t → Drains n t k q → Drains (suc n) s k q
-unfolding raise
+then : {n : ℕ} {s t : State} {z : Standing} → Pops s t → Drains n t z → Drains (suc n) s z
+unfolding raise outgoingDropped
 then nothing-read drains-nothing = drains-nothing
 then nothing-read (drains-wait e) = drains-wait e
 then nothing-read (drains-ending d w v e) = drains-ending d w (omega arith) e
@@ -225,58 +286,47 @@ going P ReselectionIgnored on stop x y = y
 going P NoDataNow on stop x y = y
 going P Reported on stop x y = y
 
-pub block-drains : (l : List ℕ) (s : State) → Drains (length l) s (blockRead l s .state .status .code) (blockRead l s .state .status .pending)
+block-drains : (l : List ℕ) (s : State) → Drains (length l) s (standing (blockRead l s .state))
 unfolding blockRead
 block-drains [] s = drains-nothing
 block-drains (x ∷ l) s =
-    going (λ (r : Moved). Drains (suc (length l)) s (r .state .status .code) (r .state .status .pending)) (dataRead s .answer) _ _
+    going (λ (r : Moved). Drains (suc (length l)) s (standing (r .state))) (dataRead s .answer) _ _
     (λ v. then (pops s) (block-drains l (dataRead s .state)))
     drains-nothing
 
-written-status : (b : ℕ) (s : State) → dataWritten b s .state .status ≡ s .status
+written-stands : (b : ℕ) (s : State) → standing (dataWritten b s .state) ≡ standing s
 unfolding dataWritten
-written-status b s = by-way (s .transfer .direction)
+written-stands b s = by-way (s .transfer .direction)
   where
-    by-way : (d : Direction) → dataWrittenBy d b s .state .status ≡ s .status
+    by-way : (d : Direction) → standing (dataWrittenBy d b s .state) ≡ standing s
     by-way Unfixed = refl
     by-way In = refl
-    by-way Out = chosen (λ (r : Reply). r .state .status ≡ s .status) _ refl refl
+    by-way Out = chosen (λ (r : Reply). standing (r .state) ≡ standing s) _ refl refl
 
-block-status : (l : List ℕ) (s : State) → blockWritten l s .state .status ≡ s .status
+block-stands : (l : List ℕ) (s : State) → standing (blockWritten l s .state) ≡ standing s
 unfolding blockWritten
-block-status [] s = refl
-block-status (x ∷ l) s =
-    going (λ (r : Moved). r .state .status ≡ s .status) (dataWritten x s .answer) _ _
-    (λ v. block-status l (dataWritten x s .state) ∙ written-status x s)
+block-stands [] s = refl
+block-stands (x ∷ l) s =
+    going (λ (r : Moved). standing (r .state) ≡ standing s) (dataWritten x s .answer) _ _
+    (λ v. block-stands l (dataWritten x s .state) ∙ written-stands x s)
     refl
 
-stored-status : (a b : ℕ) (s : State) → stored a b s .status ≡ s .status
-unfolding stored
-stored-status a b s =
-    chosen Kept _ refl
-    (chosen Kept _ refl
-    (chosen Kept _ refl
-    (chosen Kept _ refl
-    (chosen Kept _ refl
-    (chosen Kept _ refl
-    (chosen Kept _ refl (chosen Kept _ refl (chosen Kept _ refl (chosen Kept _ refl (chosen Kept _ refl refl))))))))))
-  where
-    Kept : State → Type 0
-    Kept t = t .status ≡ s .status
-
-drained : {c : Call} {n : ℕ} {s : State} {k : ℕ} {q : Pending}
+drained : {c : Call} {n : ℕ} {s : State} {z : Standing} → isAnswer c ≡ false
     → ((j : ℕ) → isIncoming (s .transfer .direction) ≡ true → 0 < waits (s .fifo) → waits (s .fifo) ≤ n → s .status .pending ≡ Ending j
     → Because c s j)
-    → Drains n s k q → Tells c s k q
-drained h drains-nothing = silent
-drained h (drains-wait e) = settles (rw e) refl
-drained h (drains-ending d w v e) = raises (rw e) (h _ d w v e)
+    → Drains n s z → Tells c s z
+drained a h drains-nothing = silent (λ q. a)
+drained a h (drains-wait e) = settles (rw e) refl refl
+drained a h (drains-ending d w v e) = raises (rw e) (h _ d w v e) (there (λ q. clash refl (ap isEnding (sym e ∙ q))))
 
 -- the registers
 
 module _ (m b : ℕ) (s : State) (good : isGood (register m b) ≡ true) where
   abbrev Says : Reply → Type 0
   Says r = ToldReply (register m b) s r
+
+  unmoved : Tells (register m b) s (standing s)
+  unmoved = silent (λ q. refl)
 
   is-read : (a : ℕ) → isSet m ≡ false → eqb (s .status .pointer) a ≡ true → readsAt a (register m b) s ≡ true
   unfolding readsAt both
@@ -285,25 +335,44 @@ module _ (m b : ℕ) (s : State) (good : isGood (register m b) ≡ true) where
   read-tells : isSet m ≡ false → Says (readAt (s .status .pointer) s)
   unfolding readAt
   read-tells w =
-      chosen-if Says _ (λ e. reads (is-read 0x17 w e))
-      (λ n. chosen Says _ silent
+      chosen-if Says _ (λ e. so (reads (is-read 0x17 w e) refl))
+      (λ n. chosen Says _ (so unmoved)
       (chosen-if Says _
-      (λ e. drained {n = 1} (λ j d v u f. B.reads (B.byte (is-read 0x19 w e) d (omega arith) f)) (then (pops s) drains-nothing))
-      (λ o. silent)))
+      (λ e. so (drained {n = 1} refl (λ j d v u f. B.reads (B.byte (is-read 0x19 w e) d (omega arith) f)) (then (pops s) drains-nothing)))
+      (λ o. (so unmoved))))
+
+  stored-tells : (a : ℕ) → ToldState (register m b) s (stored a b s)
+  unfolding stored
+  stored-tells a =
+      chosen Told _ (so unmoved)
+      (chosen Told _ (so unmoved)
+      (chosen Told _ (so unmoved)
+      (chosen Told _ (so unmoved)
+      (chosen Told _ (so unmoved)
+      (chosen Told _ (so unmoved)
+      (chosen Told _ (so unmoved)
+      (chosen Told _ (so unmoved) (chosen Told _ (so unmoved) (chosen Told _ (so unmoved) (chosen Told _ (so unmoved) (so unmoved)))))))))))
+    where
+      Told : State → Type 0
+      Told t = ToldState (register m b) s t
 
   written-tells : isSet m ≡ true → Says (writtenAt (s .status .pointer) b s)
   unfolding writtenAt
   written-tells w =
       chosen-if Says _ (commanded-tells m b s good w)
-      (λ n. chosen Says _ (rw (written-status b s) silent) (rw (stored-status (s .status .pointer) b s) silent))
+      (λ n. chosen Says _ (so (rw (written-stands b s) unmoved)) (stored-tells (s .status .pointer)))
+
+  at-address-tells : Says (accessedAt (s .status .pointer) (isSet m) b s)
+  unfolding accessedAt
+  at-address-tells = chosen Says _ (so unmoved) (chosen-if Says _ written-tells read-tells)
 
   pub accessed-tells : Says (accessed (isSet m) b s)
-  unfolding accessed stepped accessedAt
-  accessed-tells = chosen Says _ silent (chosen-if Says _ written-tells read-tells)
+  unfolding accessed stepped
+  accessed-tells = so (at-address-tells .tells)
 
 pub block-tells : (m : ℕ) (l : List ℕ) (s : State) → isGood (block m l) ≡ true → isSet m ≡ false
     → ToldState (block m l) s (blockRead l s .state)
-block-tells m l s good w = drained (λ j d v u f. B.reads (B.slice good w d v u f)) (block-drains l s)
+block-tells m l s good w = so (drained refl (λ j d v u f. B.reads (B.slice good w d v u f)) (block-drains l s))
 
 pub block-written-tells : (m : ℕ) (l : List ℕ) (s : State) → ToldState (block m l) s (blockWritten l s .state)
-block-written-tells m l s = rw (block-status l s) silent
+block-written-tells m l s = so (rw (block-stands l s) (silent (λ q. refl)))

@@ -8,3 +8,5 @@ pub mod History
 pub mod Asked
 pub mod Rows
 pub mod Because
+pub mod Codes
+pub mod Refuted

@@ -1,26 +1,26 @@
 -- The other rows of the table: commands, Time, Answer, Reselection, and the reads that end a read-out.
 --   aborts-connected-row aborts-row refuses-row resumes-row   commands
 --   times-out-row answers-row reselects-row                   events
---   reads-out-row moves-out-row                               reads
+--   byte-row slice-row                                        reads
 use mathlib.Core.Path.{_≡_, refl, sym, ap, _∙_}
-use mathlib.Core.Bool.{Bool, true, false, not}
+use mathlib.Core.Bool.{Bool, true, false}
 use mathlib.Core.List.{List, [], _∷_}
-use Prim.Native.Nat.{ℕ, suc, _+_, _-_, _<_, _≤_}
+use Prim.Native.Nat.{ℕ, _+_, _<_, _≤_}
 use native.Mathlib.Omega.{arith}
 use lib.Dec.{eqb, leb}
 use lib.ListN.{length}
-use borrow.Author.Tests.{eqb-true, eq-eqb, ne-eqb}
+use borrow.Author.Tests.{eq-eqb}
 use Rattle.chip.specs.Choice.{pick, both, either}
 use Rattle.chip.specs.Phases.{phaseNumber}
 use Rattle.chip.specs.Lines.{codeOf, isSingle, qualifies}
 use Rattle.chip.specs.Fifo.{isEmpty, front, pop, waits}
 use Rattle.chip.specs.State.{setFifo}
-use Rattle.chip.specs.Answers.{done}
+use Rattle.chip.specs.Answers.{done, noDataNow}
 use Rattle.chip.specs.TransferInfo.{dbr}
 use Rattle.chip.specs.Count.{loaded}
-use Rattle.chip.specs.Interrupts.{interrupted, isInterrupt, isEnding, ends, busy, isRunning, interrupt, endingWith, raise, settled, settledBy, unread, isIncoming}
+use Rattle.chip.specs.Interrupts.{isInterrupt, isEnding, busy, isRunning, interrupt, endingWith, raise, outgoingDropped, withoutOutgoing, settled, settledBy, unread, isIncoming}
 use Rattle.chip.specs.SelectAndTransfer.{resumed, isResumable, isEarly, isMiddle, isAtEnd}
-use Rattle.chip.specs.Commands.{isConnected, isWaiting, isPlace, isTwo, isReady, isValid, isRefusedBusy, entryOf, table, aborted, transferring, carriedOut, accepted, commanded, abortPhase}
+use Rattle.chip.specs.Commands.{isConnected, isWaiting, isReady, isValid, isRefusedBusy, entryOf, table, aborted, transferring, carriedOut, accepted, commanded, abortPhase}
 use Rattle.chip.specs.Registers as R
 use Rattle.chip.specs.Events as E
 use Rattle.chip.specs.Events.{isTransfer}
@@ -30,16 +30,14 @@ use Rattle.chip.specs.declared.Reply.{Reply}
 use Rattle.chip.specs.declared.Running.{Running}
 use Rattle.chip.specs.declared.Connection.{Connection}
 use Rattle.chip.specs.declared.Connection.the-variants.{Disconnected, Selecting, Waiting, Connected}
-use Rattle.chip.specs.declared.Fifo.{Fifo}
 use Rattle.chip.specs.declared.Direction.{Direction}
 use Rattle.chip.specs.declared.Direction.the-variants.{Unfixed, In, Out}
 use Rattle.chip.specs.declared.Pending.{Pending}
-use Rattle.chip.specs.declared.Pending.the-variants.{Nothing, Interrupt, Ending}
+use Rattle.chip.specs.declared.Pending.the-variants.{Ending}
 use Rattle.unread.specs.Status.{isCommand, readsAt}
 use Rattle.unread.specs.Because.{Quiet}
 use Rattle.unread.proofs.Choosing.{taken, passed-over, by-test, clash, second-fails, one-of}
-use Rattle.unread.proofs.Host as H
-use Rattle.unread.proofs.Host.{Drains, block-drains, some-wait, holds-some, one-less}
+use Rattle.unread.proofs.Host.{some-wait, holds-some, one-less}
 use Rattle.unread.proofs.Told.{good-step, Issued, issued, Read, is-read}
 use Rattle.unread.proofs.Asked.{seen, shown, Raised, Ended, raised-by, ended-by, open-event}
 
@@ -116,7 +114,8 @@ module _ (c : Call) (s : State) (q : Quiet s) where
     pub refuses-row : (k : ℕ) → isCommand k c s ≡ true → eqb k 0x00 ≡ false → isValid k s ≡ false → Raised 0x40 (step c s .state)
     refuses-row k e n v =
         let h : Issued k c s = issued k c s e in
-        stepped-raised c s 0x18 _ (h .leaves) (rw (refused-command (h .byte) (rw (h .code, n)) (rw (h .code, v))) (record { code = refl; int = refl }))
+        stepped-raised c s 0x18 _ (h .leaves)
+        (rw (refused-command (h .byte) (rw (h .code, n)) (rw (h .code, v))) (record { code = refl; int = refl }))
 
     module _ (x : s .wire .connection ≡ Connected) (p : s .registers .phase ≡ 0x60) where
       resumable : isResumable s ≡ true
@@ -137,13 +136,13 @@ module _ (c : Call) (s : State) (q : Quiet s) where
       resume-carried k b w =
           one-of (λ (j : ℕ). Ended 0x16 false (carriedOut j (isSingle b) (accepted b s))) 0x08 0x09 k w (resume-raises _ b) (resume-raises _ b)
 
-      pub resumes-row : (k : ℕ) → isCommand k c s ≡ true → either (eqb k 0x08) (eqb k 0x09) ≡ true → Raised 0x16 (step c s .state)
+      pub resumes-row : (k : ℕ) → isCommand k c s ≡ true → either (eqb k 0x08) (eqb k 0x09) ≡ true → Ended 0x16 false (step c s .state)
       resumes-row k e w =
           let h : Issued k c s = issued k c s e in
           let n : eqb k 0x00 ≡ false = one-of (λ (j : ℕ). eqb j 0x00 ≡ false) 0x08 0x09 k w refl refl in
-          stepped-raised c s 0x18 _ (h .leaves)
+          stepped-ended c s 0x18 _ (h .leaves)
           (rw (taken-command (h .byte) (rw (h .code) n) (kept-free _) (rw (h .code) (resume-valid k w)), h .code)
-          (resume-carried k (h .byte) w .raised-now refl))
+          (resume-carried k (h .byte) w))
 
 -- events
 
@@ -200,12 +199,31 @@ data-read s d e =
     has-byte : s .transfer .direction ≡ In → dbr s ≡ true
     has-byte f = unfold dbr in rw (f, e)
 
--- INT is set: no read of the Data register tells anything
-drains-on : {n : ℕ} {s : State} {k : ℕ} {q : Pending} → Drains n s k q → s .status .pending ≡ Interrupt
-    → (k ≡ s .status .code) × (q ≡ Interrupt)
-drains-on H.drains-nothing i = (refl, i)
-drains-on (H.drains-wait e) i = clash refl (ap isInterrupt (sym i ∙ e))
-drains-on (H.drains-ending d w v e) i = clash refl (ap isInterrupt (sym i ∙ e))
+no-data : (s : State) → isEmpty (s .fifo) ≡ true → R.dataRead s ≡ noDataNow s
+unfolding R.dataRead
+no-data s e = by-way (s .transfer .direction) refl
+  where
+    no-byte : s .transfer .direction ≡ In → dbr s ≡ false
+    no-byte d = unfold dbr in rw (d, e)
+
+    by-way : (d : Direction) → s .transfer .direction ≡ d → R.dataReadBy d s ≡ noDataNow s
+    by-way Unfixed d = refl
+    by-way In d = passed-over _ _ (no-byte d)
+    by-way Out d = refl
+
+no-block : (l : List ℕ) (s : State) → isEmpty (s .fifo) ≡ true → R.blockRead l s .state ≡ s
+unfolding R.blockRead
+no-block [] s e = refl
+no-block (x ∷ l) s e = rw (no-data s e)
+
+raise-empty : (k : ℕ) (s : State) → isEmpty (s .fifo) ≡ true → isEmpty (raise k s .fifo) ≡ true
+unfolding raise outgoingDropped isEmpty
+raise-empty k s e = by-way (s .transfer .direction)
+  where
+    by-way : (d : Direction) → isEmpty (withoutOutgoing d (s .fifo)) ≡ true
+    by-way Unfixed = e
+    by-way In = e
+    by-way Out = refl
 
 -- the read of the last byte of an ending, and of a byte before it
 last-settles : (k : ℕ) (s : State) → isEmpty (pop (s .fifo)) ≡ true → s .status .pending ≡ Ending k
@@ -218,27 +236,28 @@ unfolding settled
 more-settles s z = passed-over _ _ z
 
 block-raises : (k : ℕ) (l : List ℕ) (s : State) → isIncoming (s .transfer .direction) ≡ true → 0 < waits (s .fifo)
-    → waits (s .fifo) ≤ length l → s .status .pending ≡ Ending k → Raised k (R.blockRead l s .state)
-unfolding R.blockRead raise
+    → waits (s .fifo) ≤ length l → s .status .pending ≡ Ending k → Ended k false (R.blockRead l s .state)
+unfolding R.blockRead endingWith unread
 block-raises k [] s d v u p = absurd (omega arith)
 block-raises k (x ∷ l) s d v u p =
     rw (data-read s d (holds-some (s .fifo) v))
     (by-test (isEmpty (pop (s .fifo)))
-    (λ z. rw (last-settles k s z p)
-    (let h = drains-on (block-drains l (raise k (setFifo (pop (s .fifo)) s))) refl in record { code = h .0; int = h .1 }))
+    (λ z. let t : State = setFifo (pop (s .fifo)) s in
+    let f : unread t ≡ false = second-fails _ _ (rw z) in
+    rw (last-settles k s z p) (ended-by t (ap seen (no-block l (raise k t) (raise-empty k t z) ∙ sym (passed-over _ _ f))) f))
     (λ z. rw (more-settles s z)
     (block-raises k l (setFifo (pop (s .fifo)) s) d (some-wait _ z) (omega (arith, one-less (s .fifo) (holds-some (s .fifo) v))) p)))
 
-pub moves-out-row : (m : ℕ) (l : List ℕ) (s : State) (k : ℕ) → isGood (block m l) ≡ true → isSet m ≡ false
+pub slice-row : (m : ℕ) (l : List ℕ) (s : State) (k : ℕ) → isGood (block m l) ≡ true → isSet m ≡ false
     → isIncoming (s .transfer .direction) ≡ true → 0 < waits (s .fifo) → waits (s .fifo) ≤ length l → s .status .pending ≡ Ending k
-    → Raised k (step (block m l) s .state)
+    → Ended k false (step (block m l) s .state)
 unfolding carried
-moves-out-row m l s k g f d v u p =
+slice-row m l s k g f d v u p =
     rw (good-step (block m l) s g, passed-over (R.blockWritten l s) (R.blockRead l s) f) (block-raises k l s d v u p)
 
 -- one read is a block of one
 data-raises : (k : ℕ) (s : State) → isIncoming (s .transfer .direction) ≡ true → waits (s .fifo) ≡ 1 → s .status .pending ≡ Ending k
-    → Raised k (R.dataRead s .state)
+    → Ended k false (R.dataRead s .state)
 unfolding R.blockRead
 data-raises k s d w p =
     let e = data-read s d (holds-some (s .fifo) (omega arith)) in
@@ -248,8 +267,8 @@ data-reachable : (b : ℕ) (s : State) → R.accessedAt 0x19 false b s ≡ R.dat
 unfolding R.accessedAt R.isBlind R.readAt both either pick
 data-reachable b s = by-test (busy s) (λ e. rw e) (λ e. rw e)
 
-pub reads-out-row : (c : Call) (s : State) (k : ℕ) → readsAt 0x19 c s ≡ true → isIncoming (s .transfer .direction) ≡ true
-    → waits (s .fifo) ≡ 1 → s .status .pending ≡ Ending k → Raised k (step c s .state)
-reads-out-row c s k e d w p =
+pub byte-row : (c : Call) (s : State) (k : ℕ) → readsAt 0x19 c s ≡ true → isIncoming (s .transfer .direction) ≡ true
+    → waits (s .fifo) ≡ 1 → s .status .pending ≡ Ending k → Ended k false (step c s .state)
+byte-row c s k e d w p =
     let h : Read 0x19 c s = is-read 0x19 c s e in
-    stepped-raised c s 0x19 _ (h .gives) (rw (data-reachable (h .byte) s) (data-raises k s d w p))
+    stepped-ended c s 0x19 _ (h .gives) (rw (data-reachable (h .byte) s) (data-raises k s d w p))

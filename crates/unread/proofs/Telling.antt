@@ -1,25 +1,29 @@
--- What one call does to the code at 17h and to what is pending, and the leaves of the walk that shows it of every call.
---   Tells c s k q      the call c, made in s, leaves the code k and the pending q: the six ways
---   ToldState ToldReply  .. said of the state, or of the reply, that the call leads to
+-- What one call does to the code at 17h, to what is pending and to a selection, and the leaves of the walk that shows it of every call.
+--   Standing standing  of a state: the code, what is pending, the connection, the running command
+--   Tells c s z        the call c, made in s, leaves z: the eight ways
+--   Leaves s x         a code raised in s leaves the connection x: a selection is over
+--   ToldState so ToldReply   .. said of the state, or of the reply, that the call leads to
 --   unless-int         an event that is Held with INT set
 --   ended              an ending, by whether bytes are unread then
 --   brought            .. with a code of the table
 --   quiet-of           neither INT nor an ending: nothing is pending
---   is-connected       the test for connected
-use mathlib.Core.Path.{_≡_, refl, sym}
+--   isPlain isSelecting   neither INT nor a code pending; a selection runs
+--   plain-int cleared-int  .. no INT then, nor after a read of 17h
+--   is-connected connected-apart   the test for connected
+use mathlib.Core.Path.{_≡_, refl, ap}
 use mathlib.Core.Bool.{Bool, true, false}
 use Prim.Native.Nat.{ℕ}
-use Rattle.chip.specs.Choice.{pick}
-use Rattle.chip.specs.Interrupts.{interrupted, isInterrupt, isEnding, withoutInterrupt, endingWith, raise, unread, unlessInterrupt}
+use Rattle.chip.specs.Interrupts.{interrupted, isInterrupt, isEnding, withoutInterrupt, isRunning, endingWith, raise, outgoingDropped, unread, unlessInterrupt}
 use Rattle.chip.specs.Commands.{isConnected}
 use Rattle.chip.specs.Calls.{Call}
 use Rattle.chip.specs.declared.State.{State}
 use Rattle.chip.specs.declared.Reply.{Reply}
 use Rattle.chip.specs.declared.Pending.{Pending}
 use Rattle.chip.specs.declared.Pending.the-variants.{Nothing, Interrupt, Ending, ReadOut}
+use Rattle.chip.specs.declared.Running.{Running}
 use Rattle.chip.specs.declared.Connection.{Connection}
 use Rattle.chip.specs.declared.Connection.the-variants.{Disconnected, Selecting, Waiting, Connected}
-use Rattle.unread.specs.Status.{isReset, readsAt}
+use Rattle.unread.specs.Status.{isReset, isSelection, isAnswer, readsAt}
 use Rattle.unread.specs.Because.{Quiet, Brings, Begins, Because, brings-unread, brings}
 use Rattle.unread.proofs.Choosing.{chosen-if, clash}
 
@@ -30,19 +34,70 @@ isPlain Interrupt = false
 isPlain (Ending k) = false
 isPlain ReadOut = true
 
-pub data Tells (c : Call) (s : State) : ℕ → Pending → Type 0 where
-  silent : Tells c s (s .status .code) (s .status .pending)
-  settles : {q : Pending} → interrupted s ≡ false → isPlain q ≡ true → Tells c s (s .status .code) q
-  begins : {k : ℕ} → Quiet s → Begins c s k → Tells c s (s .status .code) (Ending k)
-  raises : {k : ℕ} → interrupted s ≡ false → Because c s k → Tells c s k Interrupt
-  reads : readsAt 0x17 c s ≡ true → Tells c s (s .status .code) (withoutInterrupt (s .status .pending))
-  resets : isReset c s ≡ true → Tells c s 0 Interrupt
+abbrev pub isSelecting : Connection → Bool
+isSelecting Disconnected = false
+isSelecting Selecting = true
+isSelecting Waiting = false
+isSelecting Connected = false
 
-abbrev pub ToldState : Call → State → State → Type 0
-ToldState c s t = Tells c s (t .status .code) (t .status .pending)
+pub record Standing : Type 0 where
+  pub code : ℕ
+  pub pending : Pending
+  pub connection : Connection
+  pub running : Running
+
+abbrev pub standing : State → Standing
+standing t =
+    record { code = t .status .code; pending = t .status .pending; connection = t .wire .connection; running = t .transfer .running }
+
+-- where a call that raises a code leaves a selection: it is over, or it was none
+pub data Leaves (s : State) : Connection → Type 0 where
+  gone : {x : Connection} → isSelecting x ≡ false → Leaves s x
+  there : (Quiet s → isRunning (s .transfer .running) ≡ false) → Leaves s (s .wire .connection)
+
+pub data Tells (c : Call) (s : State) : Standing → Type 0 where
+  silent : (Quiet s → isAnswer c ≡ false) → Tells c s (standing s)
+  moves : {x : Connection} {r : Running} → isSelecting x ≡ false
+      → Tells c s (record { code = s .status .code; pending = s .status .pending; connection = x; running = r })
+  selects : {r : Running} → isSelection c s ≡ true → Quiet s → isRunning r ≡ true
+      → Tells c s (record { code = s .status .code; pending = s .status .pending; connection = Selecting; running = r })
+  settles : {q : Pending} {x : Connection} {r : Running} → interrupted s ≡ false → isPlain q ≡ true → isSelecting x ≡ false
+      → Tells c s (record { code = s .status .code; pending = q; connection = x; running = r })
+  begins : {k : ℕ} {x : Connection} {r : Running} → Quiet s → Begins c s k → isSelecting x ≡ false
+      → Tells c s (record { code = s .status .code; pending = Ending k; connection = x; running = r })
+  raises : {k : ℕ} {x : Connection} {r : Running} → interrupted s ≡ false → Because c s k → Leaves s x
+      → Tells c s (record { code = k; pending = Interrupt; connection = x; running = r })
+  reads : readsAt 0x17 c s ≡ true → isAnswer c ≡ false
+      → Tells c s
+      (record {
+        code = s .status .code;
+        pending = withoutInterrupt (s .status .pending);
+        connection = s .wire .connection;
+        running = s .transfer .running;
+      })
+  resets : {x : Connection} {r : Running} → isReset c s ≡ true → isSelecting x ≡ false
+      → Tells c s (record { code = 0; pending = Interrupt; connection = x; running = r })
+
+pub record ToldState (c : Call) (s t : State) : Type 0 where
+  pub tells : Tells c s (standing t)
+
+pub so : {c : Call} {s t : State} → Tells c s (standing t) → ToldState c s t
+so h = record { tells = h }
 
 abbrev pub ToldReply : Call → State → Reply → Type 0
 ToldReply c s r = ToldState c s (r .state)
+
+pub plain-int : (q : Pending) → isPlain q ≡ true → isInterrupt q ≡ false
+plain-int Nothing e = refl
+plain-int Interrupt e = clash e refl
+plain-int (Ending k) e = refl
+plain-int ReadOut e = refl
+
+pub cleared-int : (q : Pending) → isInterrupt (withoutInterrupt q) ≡ false
+cleared-int Nothing = refl
+cleared-int Interrupt = refl
+cleared-int (Ending k) = refl
+cleared-int ReadOut = refl
 
 pub quiet-of : (q : Pending) → isInterrupt q ≡ false → isEnding q ≡ false → q ≡ Nothing
 quiet-of Nothing i e = refl
@@ -56,16 +111,19 @@ is-connected Selecting e = clash e refl
 is-connected Waiting e = clash e refl
 is-connected Connected e = refl
 
+pub connected-apart : (x : Connection) → isConnected x ≡ true → isSelecting x ≡ false
+connected-apart x e = ap isSelecting (is-connected x e)
+
 module _ {c : Call} {s : State} where
   pub unless-int : (r : Reply) → (interrupted s ≡ false → ToldReply c s r) → ToldReply c s (unlessInterrupt s r)
   unfolding unlessInterrupt
-  unless-int r h = chosen-if (ToldReply c s) _ (λ i. silent) h
+  unless-int r h = chosen-if (ToldReply c s) _ (λ i. so (silent (λ q. clash i (ap isInterrupt q)))) h
 
-  pub ended : {k : ℕ} (t : State) → t .status .code ≡ s .status .code → Quiet s → (unread t ≡ true → Begins c s k)
-      → (unread t ≡ false → Because c s k) → ToldState c s (endingWith k t)
-  unfolding endingWith raise
-  ended t e q x y = chosen-if (ToldState c s) _ (λ w. rw e (begins q (x w))) (λ w. raises (rw q) (y w))
+  pub ended : {k : ℕ} (t : State) → t .status .code ≡ s .status .code → isSelecting (t .wire .connection) ≡ false → Quiet s
+      → (unread t ≡ true → Begins c s k) → (unread t ≡ false → Because c s k) → ToldState c s (endingWith k t)
+  unfolding endingWith raise outgoingDropped
+  ended t e z q x y = chosen-if (ToldState c s) _ (λ w. so (rw e (begins q (x w) z))) (λ w. so (raises (rw q) (y w) (gone z)))
 
-  pub brought : {k : ℕ} (t : State) → t .status .code ≡ s .status .code → unread t ≡ unread s → Quiet s → Brings c s k
-      → ToldState c s (endingWith k t)
-  brought t e u q h = ended t e q (λ w. brings-unread h (rw (← u) w)) (λ w. brings h (rw (← u) w))
+  pub brought : {k : ℕ} (t : State) → t .status .code ≡ s .status .code → isSelecting (t .wire .connection) ≡ false
+      → unread t ≡ unread s → Quiet s → Brings c s k → ToldState c s (endingWith k t)
+  brought t e z u q h = ended t e z q (λ w. brings-unread h (rw (← u) w)) (λ w. brings h (rw (← u) w))

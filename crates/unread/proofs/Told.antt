@@ -7,9 +7,8 @@
 --   Read is-read   a register read, as the step takes it
 --   ReadTold       what a read of 17h answers and leaves: Blind, or the code
 --   status-read    .. of a call that reads 17h
-use mathlib.Core.Path.{_≡_, refl, sym, ap, ap₂, _∙_}
+use mathlib.Core.Path.{_≡_, refl, ap, ap₂, _∙_}
 use mathlib.Core.Bool.{Bool, true, false, not}
-use mathlib.Core.List.{List}
 use Prim.Native.Nat.{ℕ}
 use lib.Dec.{eqb}
 use borrow.Author.Tests.{eqb-true, not-true}
@@ -21,23 +20,34 @@ use Rattle.chip.specs.Registers as R
 use Rattle.chip.specs.Calls.{Call, Outcome, pointer, auxiliary, register, block, time, answer, reselection, request, free, isGood, isSet, plain, step, carried}
 use Rattle.chip.specs.declared.State.{State}
 use Rattle.chip.specs.declared.Reply.{Reply}
-use Rattle.chip.specs.declared.Answer.{Answer}
 use Rattle.chip.specs.declared.Answer.the-variants.{Done, Blind}
-use Rattle.chip.specs.declared.Pending.{Pending}
 use Rattle.chip.specs.declared.Pending.the-variants.{Interrupt}
-use Rattle.unread.specs.Status.{isCommand, isReset, readsAt}
+use Rattle.unread.specs.Status.{isCommand, isReset, isAnswer, readsAt}
 use Rattle.unread.proofs.Choosing.{chosen, chosen-if, by-test, clash, both-first, both-second}
-use Rattle.unread.proofs.Telling.{ToldState, ToldReply, silent}
+use Rattle.unread.proofs.Telling.{ToldState, so, ToldReply, silent}
 use Rattle.unread.proofs.Host.{accessed-tells, block-tells, block-written-tells}
 use Rattle.unread.proofs.Bus.{passed-tells, answered-tells, reselected-tells, requested-tells, freed-tells}
 
+-- an Answer has no operand that could be out of range
+no-answer : (c : Call) → isGood c ≡ false → isAnswer c ≡ false
+unfolding isGood
+no-answer (pointer m b) g = refl
+no-answer auxiliary g = refl
+no-answer (register m b) g = refl
+no-answer (block m l) g = refl
+no-answer (time n) g = refl
+no-answer answer g = clash refl g
+no-answer (reselection lines) g = refl
+no-answer (request p b q) g = refl
+no-answer free g = refl
+
 pub told : (c : Call) (s : State) → ToldState c s (step c s .state)
 unfolding step carried R.pointerSet R.pointerRead R.auxiliaryRead
-told c s = chosen-if (λ (o : Outcome). ToldState c s (o .state)) _ (by-call c) (λ g. silent)
+told c s = chosen-if (λ (o : Outcome). ToldState c s (o .state)) _ (by-call c) (λ g. so (silent (λ q. no-answer c g)))
   where
     by-call : (c : Call) → isGood c ≡ true → ToldState c s (carried c s .state)
-    by-call (pointer m b) g = chosen (ToldReply (pointer m b) s) _ silent silent
-    by-call auxiliary g = silent
+    by-call (pointer m b) g = chosen (ToldReply (pointer m b) s) _ (so (silent (λ q. refl))) (so (silent (λ q. refl)))
+    by-call auxiliary g = so (silent (λ q. refl))
     by-call (register m b) g = accessed-tells m b s g
     by-call (block m l) g =
         chosen-if (λ (r : R.Moved). ToldState (block m l) s (r .state)) _ (λ w. block-written-tells m l s) (block-tells m l s g)
@@ -91,7 +101,8 @@ issued k (reselection lines) s e = clash e refl
 issued k (request p b q) s e = clash e refl
 issued k free s e = clash e refl
 
-pub reset-told : (c : Call) (s : State) → isReset c s ≡ true → (step c s .state .status .code ≡ 0x00) × (step c s .state .status .pending ≡ Interrupt)
+pub reset-told : (c : Call) (s : State) → isReset c s ≡ true
+    → (step c s .state .status .code ≡ 0x00) × (step c s .state .status .pending ≡ Interrupt)
 unfolding isReset commanded reset R.stepped pick
 reset-told c s e =
     let h : Issued 0x00 c s = issued 0x00 c s e in
@@ -118,7 +129,8 @@ is-read a (request p b q) s e = clash e refl
 is-read a free s e = clash e refl
 
 pub data ReadTold (s : State) : Outcome → Type 0 where
-  blind : {o : Outcome} → o .answer ≡ Blind → o .state .status .code ≡ s .status .code → o .state .status .pending ≡ s .status .pending → ReadTold s o
+  blind : {o : Outcome} → o .answer ≡ Blind → o .state .status .code ≡ s .status .code
+      → o .state .status .pending ≡ s .status .pending → ReadTold s o
   read : {o : Outcome} → o .answer ≡ Done (s .status .code) → o .state .status .code ≡ s .status .code
       → o .state .status .pending ≡ withoutInterrupt (s .status .pending) → ReadTold s o
 

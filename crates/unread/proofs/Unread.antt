@@ -1,47 +1,56 @@
 -- The laws of specs/Unread.antt hold of the step.
 --   unread-status-kept           a status nobody has read is replaced only by Reset
 --   code-moves-only-by-raising   the code at 17h changes only by raising
+--   int-pending                  INT, in the words of what is pending
 --   raised-anew raised-code raised-reset   three grounds on which a call raised a code
-use mathlib.Core.Path.{_≡_, refl}
-use mathlib.Core.Bool.{Bool, true, false}
-use Prim.Native.Nat.{ℕ}
+--   raised-from-quiet raised-sets-int   what a call that raised a code found, and left
+use mathlib.Core.Path.{_≡_, refl, ap}
+use mathlib.Core.Logic.{_↔_}
+use mathlib.Core.Bool.{true, false}
 use lib.Dec.{eqb}
-use borrow.Author.Tests.{ne-eqb}
+use borrow.Author.Tests.{eq-eqb, ne-eqb}
 use Rattle.chip.specs.Choice.{both, either}
 use Rattle.chip.specs.Interrupts.{interrupted, isInterrupt}
 use Rattle.chip.specs.Calls.{Call, step}
 use Rattle.chip.specs.declared.State.{State}
 use Rattle.chip.specs.declared.Pending.{Pending}
+use Rattle.chip.specs.declared.Pending.the-variants.{Nothing, Interrupt, Ending, ReadOut}
 use Rattle.unread.specs.Status.{isReset, readsAt, raised}
 use Rattle.unread.specs.Unread.{UnreadStatusKept, CodeMovesOnlyByRaising}
-use Rattle.unread.proofs.Choosing.{by-test, clash}
-use Rattle.unread.proofs.Telling.{Tells, silent, settles, begins, raises, reads, resets}
+use Rattle.unread.proofs.Choosing.{by-test, clash, both-first, both-second}
+use Rattle.unread.proofs.Telling.{Standing, Tells, silent, moves, selects, settles, begins, raises, reads, resets}
 use Rattle.unread.proofs.Told.{told, reset-told}
 
 module _ {c : Call} {s : State} where
-  code-stays : {k : ℕ} {q : Pending} → Tells c s k q → interrupted s ≡ true → isReset c s ≡ false → k ≡ s .status .code
-  code-stays silent i r = refl
-  code-stays (settles j p) i r = refl
-  code-stays (begins u h) i r = refl
-  code-stays (raises j h) i r = clash i j
-  code-stays (reads e) i r = refl
-  code-stays (resets e) i r = clash e r
+  code-stays : {z : Standing} → Tells c s z → interrupted s ≡ true → isReset c s ≡ false → z .code ≡ s .status .code
+  code-stays (silent a) i r = refl
+  code-stays (moves x) i r = refl
+  code-stays (selects e q n) i r = refl
+  code-stays (settles j p x) i r = refl
+  code-stays (begins u h x) i r = refl
+  code-stays (raises j h x) i r = clash i j
+  code-stays (reads e a) i r = refl
+  code-stays (resets e x) i r = clash e r
 
-  int-stays : {k : ℕ} {q : Pending} → Tells c s k q → interrupted s ≡ true → readsAt 0x17 c s ≡ false → isInterrupt q ≡ true
-  int-stays silent i r = i
-  int-stays (settles j p) i r = clash i j
-  int-stays (begins u h) i r = clash i (rw u)
-  int-stays (raises j h) i r = refl
-  int-stays (reads e) i r = clash e r
-  int-stays (resets e) i r = refl
+  int-stays : {z : Standing} → Tells c s z → interrupted s ≡ true → readsAt 0x17 c s ≡ false → isInterrupt (z .pending) ≡ true
+  int-stays (silent a) i r = i
+  int-stays (moves x) i r = i
+  int-stays (selects e q n) i r = i
+  int-stays (settles j p x) i r = clash i j
+  int-stays (begins u h x) i r = clash i (rw u)
+  int-stays (raises j h x) i r = refl
+  int-stays (reads e a) i r = clash e r
+  int-stays (resets e x) i r = refl
 
-  int-with : {k : ℕ} {q : Pending} → Tells c s k q → (k ≡ s .status .code → ⊥) → isInterrupt q ≡ true
-  int-with silent n = absurd (n refl)
-  int-with (settles j p) n = absurd (n refl)
-  int-with (begins u h) n = absurd (n refl)
-  int-with (raises j h) n = refl
-  int-with (reads e) n = absurd (n refl)
-  int-with (resets e) n = refl
+  int-with : {z : Standing} → Tells c s z → (z .code ≡ s .status .code → ⊥) → isInterrupt (z .pending) ≡ true
+  int-with (silent a) n = absurd (n refl)
+  int-with (moves x) n = absurd (n refl)
+  int-with (selects e q m) n = absurd (n refl)
+  int-with (settles j p x) n = absurd (n refl)
+  int-with (begins u h x) n = absurd (n refl)
+  int-with (raises j h x) n = refl
+  int-with (reads e a) n = absurd (n refl)
+  int-with (resets e x) n = refl
 
 module _ (c : Call) (s t : State) (i : interrupted t ≡ true) where
   pub raised-anew : interrupted s ≡ false → raised c s t ≡ true
@@ -59,19 +68,42 @@ module _ (c : Call) (s t : State) (i : interrupted t ≡ true) where
       (λ j. by-test (eqb (t .status .code) (s .status .code)) (λ k. rw (i, j, k, r)) (λ k. rw (i, j, k)))
       (λ j. rw (i, j))
 
+-- INT is one of the cases of what is pending
+pub int-pending : (s : State) → (interrupted s ≡ true) ↔ (s .status .pending ≡ Interrupt)
+int-pending s = (by-case (s .status .pending), ap isInterrupt)
+  where
+    by-case : (q : Pending) → isInterrupt q ≡ true → q ≡ Interrupt
+    by-case Nothing e = clash e refl
+    by-case Interrupt e = refl
+    by-case (Ending k) e = clash e refl
+    by-case ReadOut e = clash e refl
+
 pub unread-status-kept : UnreadStatusKept step
 unread-status-kept =
     record {
-      code-kept = λ c s. code-stays (told c s);
-      int-kept = λ c s. int-stays (told c s);
+      code-kept = λ c s. code-stays (told c s .tells);
+      int-kept = λ c s. int-stays (told c s .tells);
       reset-tells = λ c s e. rw (reset-told c s e .1);
       reset-code = λ c s e. reset-told c s e .0;
     }
 
+-- a code raised other than by Reset was raised with no INT before
+pub raised-from-quiet : (c : Call) (s : State) → isReset c s ≡ false → raised c s (step c s .state) ≡ true → interrupted s ≡ false
+unfolding raised both either
+raised-from-quiet c s r e =
+    by-test (interrupted s)
+    (λ i. let k : eqb (step c s .state .status .code) (s .status .code) ≡ true = eq-eqb _ _ (unread-status-kept .code-kept c s i r) in
+    clash (both-second (interrupted (step c s .state)) _ (rw (i, k, r) at e)) refl)
+    (λ i. i)
+
+pub raised-sets-int : (c : Call) (s t : State) → raised c s t ≡ true → interrupted t ≡ true
+unfolding raised
+raised-sets-int c s t e = both-first _ _ e
+
 pub code-moves-only-by-raising : CodeMovesOnlyByRaising step
 code-moves-only-by-raising =
     record {
-      int-with-code = λ c s. int-with (told c s);
-      code-raised = λ c s n. raised-code c s (step c s .state) (int-with (told c s) n) n;
+      int-with-code = λ c s. int-with (told c s .tells);
+      code-raised = λ c s n. raised-code c s (step c s .state) (int-with (told c s .tells) n) n;
       int-raised = λ c s j i. raised-anew c s (step c s .state) i j;
     }

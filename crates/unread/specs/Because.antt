@@ -197,7 +197,7 @@ pub data Because : Call → State → ℕ → Type 0 where
   resumes : {c : Call} {s : State} (k : ℕ) → isCommand k c s ≡ true → either (eqb k 0x08) (eqb k 0x09) ≡ true → Quiet s
       → isRunning (s .transfer .running) ≡ false → s .wire .connection ≡ Connected → s .registers .phase ≡ 0x60
       → Because c s 0x16
-  -- 20h: the last Message In byte of a Transfer Info that nothing comes in by; no call reaches such a state
+  -- 20h: the last Message In byte of a Transfer Info whose data does not come in
   takes-last : {n b m : ℕ} {s : State} → LastMessage n b m s → isIncoming (s .transfer .direction) ≡ false
       → Because (request n b m) s 0x20
   -- 22h: Abort, not connected

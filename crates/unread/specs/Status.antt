@@ -1,6 +1,8 @@
 -- The words of the laws on the status at 17h: which call is a command, which reads a register, which raised a code.
 --   isCommand k c s   the call c, made in s, writes a command with the code k to 18h
 --   isReset c s       .. the Reset command
+--   isSelection c s   .. one of the four that select, 06 to 09
+--   isAnswer c        the call c is an Answer
 --   readsAt a c s     the call c, made in s, reads the register at the address a
 --   raised c s t      the call c, which led from s to t, raised the code that t shows at 17h
 -- INT is `interrupted` of the chip's Interrupts, the code at 17h is `status .code`.
@@ -38,6 +40,21 @@ readsAt a free s = false
 
 unfoldable pub isReset : Call → State → Bool
 isReset c s = isCommand 0x00 c s
+
+unfoldable pub isSelection : Call → State → Bool
+isSelection c s =
+    either (isCommand 0x06 c s) (either (isCommand 0x07 c s) (either (isCommand 0x08 c s) (isCommand 0x09 c s)))
+
+abbrev pub isAnswer : Call → Bool
+isAnswer (pointer m b) = false
+isAnswer auxiliary = false
+isAnswer (register m b) = false
+isAnswer (block m l) = false
+isAnswer (time n) = false
+isAnswer answer = true
+isAnswer (reselection lines) = false
+isAnswer (request p b q) = false
+isAnswer free = false
 
 -- INT is set after the call, and it was not before, or the code is another, or the call is a Reset
 unfoldable pub raised : Call → State → State → Bool

@@ -1,0 +1,119 @@
+-- The facts of a state by its parts, so that what a rule leaves alone carries over; and what raising and ending leave of them.
+--   Numbers     the registers' and the identity's part of what the image's form asks for
+--   Good        the facts of a state, by its parts
+--   Fine        the same of the state in a reply
+--   being       a state with the parts that a shape speaks of given one by one
+--   raised      a raised code leaves no command and no byte
+--   ended       so does an ending without incoming bytes; with them, it is under way
+use mathlib.Core.Path.{_≡_, refl, sym, _∙_}
+use mathlib.Core.Bool.{Bool, true, false, not, true≢false, false≢true}
+use mathlib.Core.List.{List}
+use Prim.Native.Nat.{ℕ, _<_}
+use lib.ListN.{length}
+use borrow.Author.Tests.{not-false}
+use Rattle.chip.specs.Choice.{both, either}
+use Rattle.chip.specs.State.{empty}
+use Rattle.chip.specs.Answers.{held}
+use Rattle.chip.specs.Fifo.{isEmpty, pop}
+use Rattle.chip.specs.Interrupts.{isEnding, isInterrupt, isRunning, withoutOutgoing, outgoingDropped, raise, unread, endingWith, unlessInterrupt}
+use Rattle.chip.specs.declared.State.{State}
+use Rattle.chip.specs.declared.Reply.{Reply}
+use Rattle.chip.specs.declared.Fifo.{Fifo}
+use Rattle.chip.specs.declared.Identity.{Identity}
+use Rattle.chip.specs.declared.Pending.{Pending}
+use Rattle.chip.specs.declared.Pending.the-variants.{Nothing, Interrupt, Ending, ReadOut}
+use Rattle.chip.specs.declared.Running.{Running}
+use Rattle.chip.specs.declared.Connection.{Connection}
+use Rattle.chip.specs.declared.Direction.{Direction}
+use Rattle.chip.specs.declared.Direction.the-variants.{Unfixed, In, Out}
+use Rattle.chip.specs.declared.Noted.{Noted}
+use Rattle.refusals.proofs.Cases.{by-pick, by-case}
+use Rattle.reached.specs.Sound.{Placed, Way, unfixed, incoming, outgoing, Drained, none, out, isUnread, idle, ending, Shaped, Transfers, with-atn, without-atn, Selects, six, seven, eight, nine}
+use Rattle.reached.proofs.Fifos.{Whole, none-whole, dropped-whole}
+
+pub record Numbers (cdb : List ℕ) (n : ℕ) (own : Identity) : Type 0 where
+  pub cdb-long : length cdb ≡ 12
+  pub count-below : n < 16777216
+  pub identity-below : own .number < 8
+
+abbrev pub Numbered : State → Type 0
+Numbered s = Numbers (s .registers .cdb) (s .registers .count) (s .wire .identity)
+
+abbrev pub Good : State → Type 0
+Good s = Numbered s × Whole (s .fifo) × Shaped s
+
+abbrev pub Fine : Reply → Type 0
+Fine r = Good (r .state)
+
+abbrev pub being : Pending → Running → Connection → Direction → Fifo → Bool → Bool → Noted → State → State
+being p r c d q atn ack w s =
+    record {
+      registers = s .registers;
+      status = record { pointer = s .status .pointer; code = s .status .code; command = s .status .command; lci = s .status .lci; pe = s .status .pe; pending = p };
+      fifo = q;
+      transfer = record { running = r; direction = d; one = s .transfer .one };
+      wire = record { connection = c; atn = atn; ack = ack; reported = w; last = s .wire .last; identity = s .wire .identity; elapsed = s .wire .elapsed };
+    }
+
+-- ---- ways and what waits
+
+pub empty-way : (d : Direction) {q : Fifo} → isEmpty q ≡ true → Way d q
+empty-way Unfixed e = unfixed e
+empty-way In e = incoming
+empty-way Out e = outgoing
+
+pub drained-way : {d : Direction} {q : Fifo} → Drained d q → Way d q
+drained-way {d} (none e) = empty-way d e
+drained-way out = outgoing
+
+pub in-way : {d : Direction} {q : Fifo} → d ≡ In → Way d q
+in-way e = rw e incoming
+
+pub way-drained : {d : Direction} {q : Fifo} → Way d q → isUnread d q ≡ false → Drained d q
+unfolding both
+way-drained (unfixed h) e = none h
+way-drained (incoming {q = q}) e = none (not-false (isEmpty q) e)
+way-drained outgoing e = out
+
+pub pop-way : {d : Direction} {q : Fifo} → Way d q → Way d (pop q)
+unfolding pop
+pop-way (unfixed {q = q} e) = by-case (Way Unfixed) _ (λ f. unfixed e) (λ f. absurd (true≢false (sym e ∙ f)))
+pop-way incoming = incoming
+pop-way outgoing = outgoing
+
+dropped-empty : (d : Direction) {q : Fifo} → Drained d q → isEmpty (withoutOutgoing d q) ≡ true
+unfolding isEmpty
+dropped-empty Unfixed (none e) = e
+dropped-empty In (none e) = e
+dropped-empty Out (none e) = refl
+dropped-empty Out out = refl
+
+pub transfers-run : {r : Running} → Transfers r → isRunning r ≡ true
+transfers-run with-atn = refl
+transfers-run without-atn = refl
+
+pub selects-run : {r : Running} → Selects r → isRunning r ≡ true
+selects-run six = refl
+selects-run seven = refl
+selects-run eight = refl
+selects-run nine = refl
+
+pub transfers-selects : {r : Running} → Transfers r → Selects r
+transfers-selects with-atn = eight
+transfers-selects without-atn = nine
+
+-- ---- raising and ending
+
+module _ (code : ℕ) (s : State) (n : Numbered s) (u : Whole (s .fifo))
+    (l : Placed (s .wire .connection) (s .wire .atn) (s .wire .ack)) where
+  pub raised : Drained (s .transfer .direction) (s .fifo) → Good (raise code s)
+  unfolding raise outgoingDropped
+  raised h = (n, dropped-whole (s .transfer .direction) u, idle refl (dropped-empty (s .transfer .direction) h) l)
+
+  pub ended : isRunning (s .transfer .running) ≡ true → Way (s .transfer .direction) (s .fifo) → Good (endingWith code s)
+  unfolding endingWith unread
+  ended r w = by-case Good _ (λ e. (n, u, ending r e l)) (λ e. raised (way-drained w e))
+
+pub unless-int : {s : State} {r : Reply} → Good s → Fine r → Fine (unlessInterrupt s r)
+unfolding unlessInterrupt
+unless-int g x = by-pick Fine _ g x

@@ -1,0 +1,95 @@
+-- What holds of every state reached from the fresh one by calls. Paper: "Interrupts and endings", "Bus events", "Commands".
+--   Sound       the facts of a state: the image's form can hold it, and it has one of seven shapes
+--   Kept        a step's law: every call keeps them
+--   Shape       what is pending, the running command, connection, way, FIFO, ATN, held ACK and reported phase, together
+--   Placed      a connection in which no selection and no wait goes on: ATN and held ACK only when connected
+--   Transfers   a Select-And-Transfer
+--   Selects     one of 06 to 09
+--   Way         where no way is fixed, no byte waits
+--   Drained     no incoming byte waits: none at all, or an outgoing FIFO
+--   isUnread    incoming bytes wait
+-- The image's form enforces `ok`, and of the shapes only that no state has INT and an ending: one byte says which is pending. An
+-- image of any other combination is valid, and this room says that no list of calls comes to one that is not among the shapes.
+use mathlib.Core.Path.{_≡_}
+use mathlib.Core.Bool.{Bool, true, false, not}
+use Prim.Native.Nat.{ℕ}
+use Rattle.chip.specs.Choice.{both}
+use Rattle.chip.specs.Fifo.{isEmpty}
+use Rattle.chip.specs.Interrupts.{isEnding, isRunning, isIncoming}
+use Rattle.chip.specs.Commands.{wayOf}
+use Rattle.chip.specs.Calls.{Call, Outcome}
+use Rattle.chip.specs.declared.State.{State}
+use Rattle.chip.specs.declared.Fifo.{Fifo}
+use Rattle.chip.specs.declared.Pending.{Pending}
+use Rattle.chip.specs.declared.Pending.the-variants.{Nothing, Ending, ReadOut}
+use Rattle.chip.specs.declared.Running.{Running}
+use Rattle.chip.specs.declared.Running.the-variants.{Idle, SelectWithAtn, SelectWithoutAtn, TransferWithAtn, TransferWithoutAtn, TransferInfo}
+use Rattle.chip.specs.declared.Connection.{Connection}
+use Rattle.chip.specs.declared.Connection.the-variants.{Disconnected, Selecting, Waiting, Connected}
+use Rattle.chip.specs.declared.Direction.{Direction}
+use Rattle.chip.specs.declared.Direction.the-variants.{Unfixed, In, Out}
+use Rattle.chip.specs.declared.Noted.{Noted}
+use Rattle.image.specs.Ok.{Ok}
+
+abbrev pub isUnread : Direction → Fifo → Bool
+isUnread d q = both (isIncoming d) (not (isEmpty q))
+
+pub data Placed : Connection → Bool → Bool → Type 0 where
+  apart : Placed Disconnected false false
+  joined : {atn ack : Bool} → Placed Connected atn ack
+
+pub data Transfers : Running → Type 0 where
+  with-atn : Transfers TransferWithAtn
+  without-atn : Transfers TransferWithoutAtn
+
+pub data Selects : Running → Type 0 where
+  six : Selects SelectWithAtn
+  seven : Selects SelectWithoutAtn
+  eight : Selects TransferWithAtn
+  nine : Selects TransferWithoutAtn
+
+pub data Way : Direction → Fifo → Type 0 where
+  unfixed : {q : Fifo} → isEmpty q ≡ true → Way Unfixed q
+  incoming : {q : Fifo} → Way In q
+  outgoing : {q : Fifo} → Way Out q
+
+pub data Drained : Direction → Fifo → Type 0 where
+  none : {d : Direction} {q : Fifo} → isEmpty q ≡ true → Drained d q
+  out : {q : Fifo} → Drained Out q
+
+pub data Shape : Pending → Running → Connection → Direction → Fifo → Bool → Bool → Noted → Type 0 where
+  -- no command runs: no ending, INT or none, no byte waits, and it is Disconnected or connected
+  idle : {p : Pending} {c : Connection} {d : Direction} {q : Fifo} {atn ack : Bool} {w : Noted}
+      → isEnding p ≡ false → isEmpty q ≡ true → Placed c atn ack → Shape p Idle c d q atn ack w
+  -- selecting: one of 06 to 09 runs, no INT, no byte waits
+  selects : {r : Running} {d : Direction} {q : Fifo} {w : Noted}
+      → Selects r → isEmpty q ≡ true → Shape Nothing r Selecting d q false false w
+  -- waiting for reselection: a Select-And-Transfer runs, no INT, every incoming byte was read
+  waits : {r : Running} {d : Direction} {q : Fifo} {w : Noted}
+      → Transfers r → Drained d q → Shape Nothing r Waiting d q false false w
+  -- connected, a Select-And-Transfer runs, no INT
+  transfers : {r : Running} {d : Direction} {q : Fifo} {atn ack : Bool} {w : Noted}
+      → Transfers r → Way d q → Shape Nothing r Connected d q atn ack w
+  -- connected, Transfer Info runs, no INT; the way is that of the reported phase
+  informs : {d : Direction} {q : Fifo} {atn ack : Bool} {w : Noted}
+      → Way d q → d ≡ wayOf w → Shape Nothing TransferInfo Connected d q atn ack w
+  -- an ending: a command runs, incoming bytes wait, and it is Disconnected or connected
+  ending : {code : ℕ} {r : Running} {c : Connection} {d : Direction} {q : Fifo} {atn ack : Bool} {w : Noted}
+      → isRunning r ≡ true → isUnread d q ≡ true → Placed c atn ack → Shape (Ending code) r c d q atn ack w
+  -- the read-out after a Free at 42h: a Select-And-Transfer runs, incoming bytes wait, Disconnected
+  readOut : {r : Running} {d : Direction} {q : Fifo} {w : Noted}
+      → Transfers r → isUnread d q ≡ true → Shape ReadOut r Disconnected d q false false w
+
+-- the shape of a state
+abbrev pub Shaped : State → Type 0
+Shaped s =
+    Shape (s .status .pending) (s .transfer .running) (s .wire .connection) (s .transfer .direction) (s .fifo) (s .wire .atn)
+    (s .wire .ack) (s .wire .reported)
+
+pub record Sound (s : State) : Type 0 where
+  -- lengths, the count below 2^24, the identity below 8, at most 12 bytes wait, the other places of the FIFO are 0
+  pub ok : Ok s
+  pub shape : Shaped s
+
+abbrev pub Kept : (Call → State → Outcome) → Type 0
+Kept f = (c : Call) (s : State) → Sound s → Sound (f c s .state)

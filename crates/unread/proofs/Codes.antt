@@ -1,0 +1,293 @@
+-- The laws of specs/Codes.antt hold of the step.
+--   endings-begun   a pending ending was begun as the table says, and has been pending since
+--   selections-begun   a selection was begun by a Select command, and no Answer came since
+--   codes-only-by   who raises which code
+--   time-ends-nothing   no ending has the code 42h
+--   since-began since-last lastOf   what follows from the call that began it, or from the last one, follows
+--   by-calls        what holds with no call made, and with one more, holds over every list of calls
+--   run-more        .. the state with one more
+use mathlib.Core.Path.{_≡_, refl, sym, ap, _∙_}
+use mathlib.Core.Bool.{true, false}
+use mathlib.Core.List.{List, [], _∷_, _++_, append-assoc, append-nil}
+use mathlib.Core.Logic.{_⊎_, inl, inr, ⊎-elim}
+use Prim.Native.Nat.{ℕ, _+_, _-_}
+use lib.Dec.{eqb, leb}
+use Rattle.chip.specs.Choice.{pick, both, either}
+use Rattle.chip.specs.State.{fresh}
+use Rattle.chip.specs.Phases.{phaseOf, phaseNumber}
+use Rattle.chip.specs.Interrupts.{unread, isEnding, isRunning}
+use Rattle.chip.specs.Commands.{abortPhase}
+use Rattle.chip.specs.Calls.{Call, Outcome, time, answer, reselection, request, free, step}
+use Rattle.chip.specs.declared.State.{State}
+use Rattle.chip.specs.declared.Phase.{Phase}
+use Rattle.chip.specs.declared.Phase.the-variants.{DataOut, DataIn, CommandOut, StatusIn, UnspecifiedOut, UnspecifiedIn, MessageOut, MessageIn}
+use Rattle.chip.specs.declared.Pending.the-variants.{Nothing, Ending}
+use Rattle.chip.specs.declared.Connection.{Connection}
+use Rattle.chip.specs.declared.Connection.the-variants.{Disconnected, Selecting, Waiting, Connected}
+use Rattle.unread.specs.Status.{isCommand, isReset, isSelection, isAnswer}
+use Rattle.unread.specs.History.{run}
+use Rattle.unread.specs.Because as B
+use Rattle.unread.specs.Because.{Brings, Begins, ReadsOut, Because, isIdle}
+use Rattle.unread.specs.Codes as C
+use Rattle.unread.specs.Codes.{Raises, Since, EndingsBegun, Unanswered, SelectionsBegun, CodesOnlyBy}
+use Rattle.unread.proofs.Choosing.{clash}
+use Rattle.unread.proofs.Telling.{Standing, standing, isSelecting, Tells, silent, moves, selects, settles, begins, raises, reads, resets, gone, there}
+use Rattle.unread.proofs.Told.{told}
+use Rattle.unread.proofs.Because.{raised-because, ending-because, brings-row, reads-row}
+use Rattle.unread.proofs.Rows as W
+
+pub run-more : (f : Call → State → Outcome) (l : List Call) (c : Call) (s : State) → run f (l ++ (c ∷ [])) s ≡ f c (run f l s) .state
+unfolding run
+run-more f [] c s = refl
+run-more f (d ∷ l) c s = run-more f l c (f d s .state)
+
+pub by-calls : (P : List Call → Type 0) → P [] → ((l : List Call) (c : Call) → P l → P (l ++ (c ∷ []))) → (l : List Call) → P l
+by-calls P z s l = from [] z l
+  where
+    from : (g : List Call) → P g → (l : List Call) → P (g ++ l)
+    from g h [] = rw append-nil h
+    from g h (c ∷ l) = rw append-assoc at (from (g ++ (c ∷ [])) (s g c h) l)
+
+pub endings-begun : EndingsBegun step
+unfolding run
+endings-begun =
+    record {
+      begun = λ l k. by-calls (Begun k) (λ e. clash (ap isEnding e) refl)
+          (λ l c h e. ⊎-elim (λ p. C.still l c (h p) p) (C.now l c)
+          (ending-because .sound c (run step l fresh) k (sym (pending-more l c) ∙ e))) l;
+    }
+  where
+    Begun : ℕ → List Call → Type 0
+    Begun k l = run step l fresh .status .pending ≡ Ending k → Since step (λ c s. Begins c s k) (λ c s. s .status .pending ≡ Ending k) l
+
+    pending-more : (l : List Call) (c : Call)
+        → run step (l ++ (c ∷ [])) fresh .status .pending ≡ step c (run step l fresh) .state .status .pending
+    pending-more l c = ap (λ (t : State). t .status .pending) (run-more step l c fresh)
+
+-- a selection
+
+is-selecting : (x : Connection) → isSelecting x ≡ true → x ≡ Selecting
+is-selecting Disconnected e = clash e refl
+is-selecting Selecting e = refl
+is-selecting Waiting e = clash e refl
+is-selecting Connected e = clash e refl
+
+-- a state that selects has nothing pending, and its command runs
+abbrev Sound : Standing → Type 0
+Sound z = (z .pending ≡ Nothing) × (isRunning (z .running) ≡ true)
+
+-- a call that leaves a selection went on with a sound one, or began it
+course : {c : Call} {s : State} {z : Standing} → Tells c s z → (s .wire .connection ≡ Selecting → Sound (standing s))
+    → isSelecting (z .connection) ≡ true
+    → Sound z × (((s .wire .connection ≡ Selecting) × (isAnswer c ≡ false)) ⊎ (isSelection c s ≡ true))
+course {s = s} (silent a) h e =
+    let x = is-selecting (s .wire .connection) e in (h x, inl (x, a (h x .0)))
+course (moves f) h e = clash e f
+course (selects f q r) h e = ((q, r), inr f)
+course (settles i p f) h e = clash e f
+course (begins q b f) h e = clash e f
+course (raises i b (gone f)) h e = clash e f
+course {s = s} (raises i b (there f)) h e =
+    let x = h (is-selecting (s .wire .connection) e) in clash (x .1) (f (x .0))
+course {s = s} (reads d a) h e =
+    let x = is-selecting (s .wire .connection) e in ((rw (h x .0), h x .1), inl (x, a))
+course (resets d f) h e = clash e f
+
+abbrev Selected : List Call → Type 0
+Selected l = run step l fresh .wire .connection ≡ Selecting → Sound (standing (run step l fresh)) × Unanswered step l
+
+one-more-selected : (l : List Call) (c : Call) → Selected l → Selected (l ++ (c ∷ []))
+one-more-selected l c h e =
+    let s : State = run step l fresh in
+    let r : run step (l ++ (c ∷ [])) fresh ≡ step c s .state = run-more step l c fresh in
+    let x : step c s .state .wire .connection ≡ Selecting = sym (ap (λ (t : State). t .wire .connection) r) ∙ e in
+    let k = course (told c s .tells) (λ y. h y .0) (ap isSelecting x) in
+    (rw r (k .0), ⊎-elim (λ y. C.still l c (h (y .0) .1) y) (λ y. C.now l c (y, x)) (k .1))
+
+pub selections-begun : SelectionsBegun step
+unfolding run
+selections-begun = record { begun = λ l e. by-calls Selected (λ e. clash (ap isSelecting e) refl) one-more-selected l e .1 }
+
+-- which call and state a code speaks for, apart from the read that ends a read-out
+
+data Reason : Type 0 where
+  resetting answering completing aborting refusing leaving timing reselecting : Reason
+  asking : Phase → Reason
+  other : Reason
+
+reasonOf : ℕ → Reason
+reasonOf k =
+    pick (eqb k 0x00) resetting
+    (pick (eqb k 0x11) answering
+    (pick (eqb k 0x16) completing
+    (pick (eqb k 0x22) aborting
+    (pick (eqb k 0x40) refusing
+    (pick (either (eqb k 0x41) (eqb k 0x85)) leaving
+    (pick (eqb k 0x42) timing
+    (pick (eqb k 0x80) reselecting (pick (both (leb 0x88 k) (leb k 0x8F)) (asking (phaseOf (k - 0x88))) other))))))))
+
+Explains : Reason → Call → State → Type 0
+Explains resetting c s = isReset c s ≡ true
+Explains answering c s = (c ≡ answer) × (s .wire .connection ≡ Selecting)
+Explains completing c s = unread (step c s .state) ≡ false
+Explains aborting c s = isCommand 0x01 c s ≡ true
+Explains refusing c s = (k : ℕ) × (isCommand k c s ≡ true)
+Explains leaving c s = c ≡ free
+Explains timing c s = (n : ℕ) × (c ≡ time n) × (s .wire .connection ≡ Selecting)
+Explains reselecting c s = (lines : ℕ) × (c ≡ reselection lines)
+Explains (asking p) c s =
+    (n : ℕ) × (b : ℕ) × (m : ℕ) × (c ≡ request n b m) × (phaseOf n ≡ p) × (s .wire .connection ≡ Connected)
+    × (isIdle (s .transfer .running) ≡ true)
+Explains other c s = Unit {0}
+
+each-phase : (P : Phase → Type 0) → P DataOut → P DataIn → P CommandOut → P StatusIn → P UnspecifiedOut → P UnspecifiedIn → P MessageOut
+    → P MessageIn → (p : Phase) → P p
+each-phase P a b c d e f g h DataOut = a
+each-phase P a b c d e f g h DataIn = b
+each-phase P a b c d e f g h CommandOut = c
+each-phase P a b c d e f g h StatusIn = d
+each-phase P a b c d e f g h UnspecifiedOut = e
+each-phase P a b c d e f g h UnspecifiedIn = f
+each-phase P a b c d e f g h MessageOut = g
+each-phase P a b c d e f g h MessageIn = h
+
+-- the three families of codes that a phase is added to, beside 88h+p
+phased : (p : Phase)
+    → (reasonOf (0x18 + phaseNumber p) ≡ other) × (reasonOf (0x28 + phaseNumber p) ≡ other) × (reasonOf (0x48 + phaseNumber p) ≡ other)
+unfolding reasonOf pick both either
+phased =
+    each-phase
+    (λ (p : Phase). (reasonOf (0x18 + phaseNumber p) ≡ other) × (reasonOf (0x28 + phaseNumber p) ≡ other)
+    × (reasonOf (0x48 + phaseNumber p) ≡ other))
+    (refl, refl, refl) (refl, refl, refl) (refl, refl, refl) (refl, refl, refl) (refl, refl, refl) (refl, refl, refl) (refl, refl, refl)
+    (refl, refl, refl)
+
+asked : (p : Phase) → reasonOf (0x88 + phaseNumber p) ≡ asking p
+unfolding reasonOf phaseOf pick both either
+asked = each-phase (λ (p : Phase). reasonOf (0x88 + phaseNumber p) ≡ asking p) refl refl refl refl refl refl refl refl
+
+brings-explained : {c : Call} {s : State} {k : ℕ} → Brings c s k → unread s ≡ false → Explains (reasonOf k) c s
+unfolding reasonOf Explains pick both either
+brings-explained (B.completes o t g e h) u = brings-row (B.completes o t g e h) .all-read u
+brings-explained (B.overruns {p = p} o r e) u = rw (phased p .0) tt
+brings-explained (B.saves o t g e h) u = tt
+brings-explained (B.aborts-connected {s = s} e q r x) u = rw (phased (abortPhase (s .wire .last)) .1) tt
+brings-explained (B.cuts-info q x r e) u = refl
+brings-explained (B.cuts-transfer q x r e) u = refl
+brings-explained (B.spoils o r w c f h) u = tt
+brings-explained (B.surprises {p = p} o r w e) u = rw (phased p .2) tt
+brings-explained (B.leaves-info q x r e) u = refl
+brings-explained (B.leaves-transfer q x r e d) u = refl
+
+explained : {c : Call} {s : State} {k : ℕ} → Because c s k → ReadsOut c s k ⊎ Explains (reasonOf k) c s
+unfolding reasonOf Explains pick both either
+explained (B.brings h u) = inr (brings-explained h u)
+explained (B.reads h) = inl h
+explained (B.resets e) = inr e
+explained (B.answers q x t) = inr (refl, x)
+explained (B.resumes {c} {s} k e w q r x p) = inr (W.resumes-row c s q r x p k e w .all-read refl)
+explained (B.takes-last l d) = inr tt
+explained (B.aborts e q r x) = inr e
+explained (B.refuses k e n q r v) = inr (k, e)
+explained (B.times-out {n} g q x t l) = inr (n, refl, x)
+explained (B.reselects {lines} g q f x w) = inr (lines, refl)
+explained (B.frees q x r) = inr refl
+explained (B.asks {n} {b} {m} {p} o r f) = inr (rw (asked p) (n, b, m, refl, o .phase, o .connected, r))
+
+-- which call an ending with a code speaks for; a code with none never comes by an ending
+
+EndsBy : Reason → Call → Type 0
+EndsBy resetting c = ⊥
+EndsBy answering c = ⊥
+EndsBy completing c = Unit {0}
+EndsBy aborting c = ⊥
+EndsBy refusing c = ⊥
+EndsBy leaving c = c ≡ free
+EndsBy timing c = ⊥
+EndsBy reselecting c = ⊥
+EndsBy (asking p) c = ⊥
+EndsBy other c = Unit {0}
+
+brings-by : {c : Call} {s : State} {k : ℕ} → Brings c s k → EndsBy (reasonOf k) c
+unfolding reasonOf EndsBy pick both either
+brings-by (B.completes o t g e h) = tt
+brings-by (B.overruns {p = p} o r e) = rw (phased p .0) tt
+brings-by (B.saves o t g e h) = tt
+brings-by (B.aborts-connected {s = s} e q r x) = rw (phased (abortPhase (s .wire .last)) .1) tt
+brings-by (B.cuts-info q x r e) = refl
+brings-by (B.cuts-transfer q x r e) = refl
+brings-by (B.spoils o r w c f h) = tt
+brings-by (B.surprises {p = p} o r w e) = rw (phased p .2) tt
+brings-by (B.leaves-info q x r e) = refl
+brings-by (B.leaves-transfer q x r e d) = refl
+
+begins-by : {c : Call} {s : State} {k : ℕ} → Begins c s k → EndsBy (reasonOf k) c
+unfolding reasonOf EndsBy pick both either
+begins-by (B.brings-unread h u) = brings-by h
+begins-by (B.keeps-last l d) = tt
+
+pub time-ends-nothing : {c : Call} {s : State} → Begins c s 0x42 → ⊥
+unfolding reasonOf EndsBy pick both either
+time-ends-nothing h = begins-by h
+
+since-map : {f : Call → State → Outcome} {A B N : Call → State → Type 0} {l : List Call} → ((c : Call) (s : State) → A c s → B c s)
+    → Since f A N l → Since f B N l
+since-map g (C.now l c a) = C.now l c (g c _ a)
+since-map g (C.still l c h n) = C.still l c (since-map g h) n
+
+-- the last call of a list, d where there is none
+abbrev pub lastOf : Call → List Call → Call
+lastOf d [] = d
+lastOf d (c ∷ l) = lastOf c l
+
+last-one : (d c : Call) (l : List Call) → lastOf d (l ++ (c ∷ [])) ≡ c
+last-one d c [] = refl
+last-one d c (e ∷ l) = last-one e c l
+
+-- what follows from the last call, whether it began or went on, follows
+pub since-last : {f : Call → State → Outcome} {B N : Call → State → Type 0} {l : List Call} {X : Type 0} (d : Call)
+    → ((s : State) → B (lastOf d l) s → X) → ((s : State) → N (lastOf d l) s → X) → Since f B N l → X
+since-last {f} d x y (C.now l c b) = x (run f l fresh) (rw (last-one d c l) b)
+since-last {f} d x y (C.still l c h n) = y (run f l fresh) (rw (last-one d c l) n)
+
+pub since-began : {f : Call → State → Outcome} {B N : Call → State → Type 0} {l : List Call} {X : Type 0}
+    → ((c : Call) (s : State) → B c s → X) → Since f B N l → X
+since-began g (C.now l c b) = g c _ b
+since-began g (C.still l c h n) = since-began g h
+
+reads-pending : {c : Call} {s : State} {k : ℕ} → ReadsOut c s k → s .status .pending ≡ Ending k
+reads-pending (B.byte e d w p) = p
+reads-pending (B.slice g f d v u p) = p
+
+read-out-since : {k : ℕ} (l : List Call) (c : Call) → ReadsOut c (run step l fresh) k
+    → Since step (λ d s. EndsBy (reasonOf k) d) (λ d s. s .status .pending ≡ Ending k) l
+read-out-since {k} l c h = since-map (λ d s b. begins-by b) (endings-begun .begun l k (reads-pending h))
+
+module _ (l : List Call) (c : Call) {k : ℕ} (h : Raises step l c k) where
+  why : ReadsOut c (run step l fresh) k ⊎ Explains (reasonOf k) c (run step l fresh)
+  why = explained (rw (h .code) at (raised-because .sound c (run step l fresh) (h .raises)))
+
+  -- a code that never comes by an ending
+  own : ((d : Call) → EndsBy (reasonOf k) d → ⊥) → Explains (reasonOf k) c (run step l fresh)
+  own n = ⊎-elim (λ r. absurd (since-began (λ d s. n d) (read-out-since l c r))) (λ e. e) why
+
+request-only : (l : List Call) (c : Call) (p : Phase) → Raises step l c (0x88 + phaseNumber p) → Explains (asking p) c (run step l fresh)
+unfolding EndsBy
+request-only l c p h = rw (asked p) at (own l c h (λ d x. rw (asked p) at x))
+
+pub codes-only-by : CodesOnlyBy step
+unfolding reasonOf Explains EndsBy pick both either
+codes-only-by =
+    record {
+      by-reset = λ l c h. own l c h (λ d x. x);
+      by-answer = λ l c h. own l c h (λ d x. x);
+      all-read = λ l c h. ⊎-elim (λ r. reads-row r .all-read refl) (λ e. e) (why l c h);
+      by-abort = λ l c h. own l c h (λ d x. x);
+      by-command = λ l c h. own l c h (λ d x. x);
+      by-free-early = λ l c h. ⊎-elim (λ r. inr (r, read-out-since l c r)) inl (why l c h);
+      by-free = λ l c h. ⊎-elim (λ r. inr (r, read-out-since l c r)) inl (why l c h);
+      by-time = λ l c h. own l c h (λ d x. x);
+      unanswered = λ l c h. selections-begun .begun l (own l c h (λ d x. x) .2);
+      by-reselection = λ l c h. own l c h (λ d x. x);
+      by-request = request-only;
+    }

@@ -1,0 +1,131 @@
+-- Each law refuses a wrong step: `Law wrong → ⊥`. What is wrong is said in specs/Wrong.antt.
+--   hasty-refused peeking-refused soft-refused           by UnreadStatusKept
+--   mumbling-refused                                     by CodeMovesOnlyByRaising
+--   hasty-loses peeking-hides mumbling-lies forgetful-stale   by NoStatusLost
+--   sluggish-refused hurried-refused                     by RaisedBecause
+--   hurried-ends                                         by EndingBecause
+--   meddling-refused                                     by EndingsBegun
+--   deaf-refused                                         by SelectionsBegun
+--   mistaken-refused deaf-times-out                      by CodesOnlyBy
+use mathlib.Core.Path.{_≡_, refl, ap}
+use mathlib.Core.Bool.{true}
+use mathlib.Core.List.{List, [], _∷_}
+use Prim.Native.Nat.{ℕ}
+use native.Mathlib.Omega.{arith}
+use lib.ListN.{replicate}
+use Rattle.chip.specs.Choice.{either}
+use Rattle.chip.specs.State.{fresh, setCode, setPending, setPointer, setTimeout, setConnection, setRunning, setDirection, setCount, setFifo}
+use Rattle.chip.specs.Interrupts.{isInterrupt, isEnding}
+use Rattle.chip.specs.Calls.{Call, pointer, auxiliary, register, time, answer, free}
+use Rattle.chip.specs.declared.State.{State}
+use Rattle.chip.specs.declared.Pending.the-variants.{Interrupt}
+use Rattle.chip.specs.declared.Connection.the-variants.{Selecting, Connected}
+use Rattle.chip.specs.declared.Running.the-variants.{SelectWithoutAtn, TransferInfo}
+use Rattle.chip.specs.declared.Direction.the-variants.{In}
+use Rattle.chip.proofs.Computing.{everything}
+use Rattle.unread.specs.Status.{isCommand, isReset, isSelection, readsAt, raised}
+use Rattle.unread.specs.Unread.{UnreadStatusKept, CodeMovesOnlyByRaising}
+use Rattle.unread.specs.History as H
+use Rattle.unread.specs.History.{NoStatusLost, Orderly}
+use Rattle.unread.specs.Because as B
+use Rattle.unread.specs.Because.{RaisedBecause, EndingBecause}
+use Rattle.unread.specs.Codes.{EndingsBegun, Unanswered, SelectionsBegun, CodesOnlyBy}
+use Rattle.unread.specs.Wrong as W
+use Rattle.unread.specs.Wrong.{hasty, peeking, mumbling, soft, forgetful, hurried, sluggish, mistaken, meddling, deaf}
+use Rattle.unread.proofs.Choosing.{clash}
+use Rattle.unread.proofs.Because.{because-row}
+use Rattle.unread.proofs.Codes.{since-began, since-last, time-ends-nothing}
+
+-- a status 16h that nobody has read, with the pointer at a
+abbrev unreadAt : ℕ → State
+unreadAt a = setPointer a (setPending Interrupt (setCode 0x16 fresh))
+
+pub hasty-refused : UnreadStatusKept hasty → ⊥
+unfolding everything hasty W.changed W.kind isReset isCommand
+hasty-refused h = let z : _≡_ {A = ℕ} 0x42 0x16 = h .code-kept (time 0) (unreadAt 0) refl refl in omega arith
+
+pub peeking-refused : UnreadStatusKept peeking → ⊥
+unfolding everything peeking W.changed W.kind readsAt
+peeking-refused h = clash (h .int-kept auxiliary (unreadAt 0) refl refl) refl
+
+pub soft-refused : UnreadStatusKept soft → ⊥
+unfolding everything soft isReset isCommand
+soft-refused h = clash (h .reset-tells (register 1 0) (setPointer 0x18 fresh) refl) refl
+
+pub mumbling-refused : CodeMovesOnlyByRaising mumbling → ⊥
+unfolding everything mumbling W.changed W.kind
+mumbling-refused h = clash (h .int-with-code free fresh other-code) refl
+  where
+    other-code : _≡_ {A = ℕ} 0x85 0x00 → ⊥
+    other-code z = omega arith
+
+pub hasty-loses : NoStatusLost hasty → ⊥
+unfolding everything hasty W.changed W.kind isReset isCommand readsAt raised H.history H.noted H.run
+hasty-loses h = lost (h .orderly (time 0 ∷ []) (unreadAt 0))
+  where
+    lost : Orderly 0x16 true (H.raises 0x42 ∷ []) → ⊥
+    lost o = elim o [ ]
+
+pub peeking-hides : NoStatusLost peeking → ⊥
+unfolding everything peeking W.changed W.kind isReset isCommand readsAt raised H.history H.noted H.run
+peeking-hides h = clash (h .int-is-unread (auxiliary ∷ []) (unreadAt 0)) refl
+
+pub mumbling-lies : NoStatusLost mumbling → ⊥
+unfolding everything mumbling W.changed W.kind isReset isCommand readsAt raised H.history H.noted H.run
+mumbling-lies h = let z : _≡_ {A = ℕ} 0x85 0x00 = h .code-is-last (free ∷ []) fresh in omega arith
+
+pub forgetful-stale : NoStatusLost forgetful → ⊥
+unfolding everything forgetful isReset isCommand readsAt raised H.history H.noted H.run
+forgetful-stale h = stale (h .orderly (register 0 0 ∷ []) (unreadAt 0x17))
+  where
+    stale : Orderly 0x16 true (H.reads 0x00 ∷ []) → ⊥
+    stale o = elim o [ ]
+
+-- selecting, with a timeout of 1
+abbrev calling : State
+calling = setTimeout 1 (setConnection Selecting (setRunning SelectWithoutAtn fresh))
+
+pub sluggish-refused : RaisedBecause sluggish → ⊥
+unfolding everything sluggish W.changed W.kind isReset isCommand raised
+sluggish-refused h = clash (h .complete (time 1) calling 0x42 (B.times-out refl refl refl refl refl)) refl
+
+-- Transfer Info coming in, with a byte left and one unread
+abbrev filled : State
+filled =
+    setConnection Connected
+    (setRunning TransferInfo (setDirection In (setCount 1 (setFifo (record { bytes = replicate 12 0; held = 1 }) fresh))))
+
+pub hurried-refused : RaisedBecause hurried → ⊥
+unfolding everything hurried isReset isCommand raised
+hurried-refused h = clash refl (ap isEnding (because-row (h .sound free filled refl) .int))
+
+pub hurried-ends : EndingBecause hurried → ⊥
+unfolding everything hurried
+hurried-ends h =
+    clash refl (ap isInterrupt (h .complete free filled 0x41 (B.brings-unread (B.cuts-info refl refl refl refl) refl)))
+
+pub meddling-refused : EndingsBegun meddling → ⊥
+unfolding everything meddling W.changed W.kind H.run
+meddling-refused h = since-began (λ c s b. time-ends-nothing b) (h .begun (free ∷ []) 0x42 refl)
+
+pub mistaken-refused : CodesOnlyBy mistaken → ⊥
+unfolding everything mistaken W.changed W.kind isReset isCommand raised H.run
+mistaken-refused h =
+    let z : _≡_ {A = ℕ} 5 4 = ap W.kind (h .by-time (pointer 1 0x18 ∷ register 1 0x07 ∷ []) answer (record { raises = refl; code = refl }) .1) in
+    omega arith
+
+-- a timeout of 1, a Select, and an Answer
+abbrev callsAnswered : List Call
+callsAnswered = pointer 1 0x02 ∷ register 1 0x01 ∷ pointer 1 0x18 ∷ register 1 0x07 ∷ answer ∷ []
+
+answered-since : Unanswered deaf callsAnswered → ⊥
+unfolding isSelection isCommand either
+answered-since = since-last auxiliary (λ s b. clash (b .0) refl) (λ s n. clash refl (n .1))
+
+pub deaf-refused : SelectionsBegun deaf → ⊥
+unfolding everything deaf W.changed W.kind H.run
+deaf-refused h = answered-since (h .begun callsAnswered refl)
+
+pub deaf-times-out : CodesOnlyBy deaf → ⊥
+unfolding everything deaf W.changed W.kind isReset isCommand raised H.run
+deaf-times-out h = answered-since (h .unanswered callsAnswered (time 1) (record { raises = refl; code = refl }))
