@@ -2,7 +2,7 @@
 --   request-kept   of every Request, from every shape
 use mathlib.Core.Path.{_≡_, refl, sym, _∙_}
 use mathlib.Core.Bool.{Bool, true, false, true≢false}
-use Prim.Native.Nat.{ℕ, _%_}
+use Prim.Native.Nat.{ℕ, _%_, _<_}
 use native.Mathlib.Omega.{arith}
 use lib.Dec.{eqb}
 use borrow.Author.Tests.{eqb-true}
@@ -39,7 +39,7 @@ use Rattle.chip.specs.declared.Stage.the-variants.{SendIdentify, SendCommand, B
 use Rattle.refusals.proofs.Cases.{by-pick, by-case, both-first, both-second}
 use Rattle.reached.specs.Sound.{Placed, apart, joined, Way, unfixed, incoming, outgoing, none, Shape, idle, selects, waits, transfers, informs, ending, readOut, Transfers, with-atn, without-atn}
 use Rattle.reached.proofs.Fifos.{Whole, dropped-whole, pop-whole, push-whole}
-use Rattle.reached.proofs.Shapes.{Numbers, Numbered, Good, Fine, being, in-way, pop-way, empty-way, raised, ended, unless-int, transfers-run}
+use Rattle.reached.proofs.Shapes.{Numbers, Numbered, Good, so, Fine, being, in-way, pop-way, empty-way, raised, ended, unless-int, transfers-run}
 
 -- ---- the count falls by one, or stands
 
@@ -48,7 +48,7 @@ unfolding lowered
 fewer s n =
     record {
       cdb-long = n .cdb-long;
-      count-below = by-pick (λ (x : ℕ). Prim.Native.Nat._<_ x 16777216) _ (omega arith) (omega (arith, n .count-below));
+      count-below = by-pick (λ (x : ℕ). x < 16777216) _ (omega arith) (omega (arith, n .count-below));
       identity-below = n .identity-below;
     }
 
@@ -80,15 +80,15 @@ module _ (s : State) (r : Running) (d : Direction) (q : Fifo) (atn ack : Bool) (
   now = being Nothing r Connected d q atn ack w s
 
   same : Good now
-  same = (n, u, on q atn ack way)
+  same = (so _ n u (on q atn ack way))
 
   halts : Fine (halted now)
   unfolding halted
-  halts = unless-int same (ended 0x43 _ n u joined run way)
+  halts = unless-int _ _ same (ended 0x43 _ n u joined run way)
 
-  unless-halted : (bad : Bool) {x : Reply} → Fine x → Fine (unlessHalted bad now x)
+  unless-halted : (bad : Bool) (x : Reply) → Fine x → Fine (unlessHalted bad now x)
   unfolding unlessHalted
-  unless-halted bad x = by-pick Fine _ halts x
+  unless-halted bad x g = by-pick Fine _ halts g
 
   taken : (b : ℕ) (bad : Bool) → Numbered (takenIn b bad now)
   unfolding takenIn parityNoted lowered
@@ -98,20 +98,20 @@ module _ (s : State) (r : Running) (d : Direction) (q : Fifo) (atn ack : Bool) (
   unfolding infoTaken takenIn parityNoted lowered
   info-taken p b bad e =
       by-pick Fine _
-      (unless-int same (ended 0x20 _ (taken b bad) (push-whole q u b) joined run (in-way e)))
-      (taken b bad, push-whole q u b, on (push b q) atn ack (in-way e))
+      (unless-int _ _ same (ended 0x20 _ (taken b bad) (push-whole q u b) joined run (in-way e)))
+      (so _ (taken b bad) (push-whole q u b) (on (push b q) atn ack (in-way e)))
 
   info-in : (p : Phase) (b : ℕ) (bad : Bool) → d ≡ In → Fine (infoIn p b bad now)
   unfolding infoIn
-  info-in p b bad e = by-pick Fine _ (unless-halted bad (info-taken p b bad e)) same
+  info-in p b bad e = by-pick Fine _ (unless-halted bad _ (info-taken p b bad e)) same
 
   info-out : (p : Phase) → Fine (infoOut p now)
   unfolding infoOut lowered
-  info-out p = by-pick Fine _ same (fewer s n, pop-whole q u, on (pop q) _ ack (pop-way way))
+  info-out p = by-pick Fine _ same (so _ (fewer s n) (pop-whole q u) (on (pop q) _ ack (pop-way way)))
 
   info-over : (p : Phase) → Fine (infoOver p now)
   unfolding infoOver
-  info-over p = unless-int same (ended _ _ n u joined run way)
+  info-over p = unless-int _ _ same (ended _ _ n u joined run way)
 
   info-request : (p : Phase) (b : ℕ) (bad : Bool) → d ≡ wayOf w → Fine (infoRequest p b bad now)
   unfolding infoRequest
@@ -125,20 +125,20 @@ module _ (s : State) (r : Running) (d : Direction) (q : Fifo) (atn ack : Bool) (
 
   unexpected-kept : (p : Phase) → Fine (unexpected p now)
   unfolding unexpected
-  unexpected-kept p = unless-int same (ended _ _ n u joined run way)
+  unexpected-kept p = unless-int _ _ same (ended _ _ n u joined run way)
 
   module _ (tr : Transfers r) where
     send-data : Fine (sendData now)
     unfolding sendData lowered
-    send-data = by-pick Fine _ same (fewer s n, pop-whole q u, on (pop q) atn ack (pop-way way))
+    send-data = by-pick Fine _ same (so _ (fewer s n) (pop-whole q u) (on (pop q) atn ack (pop-way way)))
 
     take-data : (b : ℕ) (bad : Bool) → Fine (takeData b bad now)
     unfolding takeData takenIn parityNoted lowered
-    take-data b bad = by-pick Fine _ (unless-halted bad (taken b bad, push-whole q u b, transfers tr incoming)) same
+    take-data b bad = by-pick Fine _ (unless-halted bad _ (so _ (taken b bad) (push-whole q u b) (transfers tr incoming))) same
 
     data-out : (x : Direction) → Fine (dataOut x now)
     unfolding dataOut
-    data-out Unfixed = (n, u, transfers tr outgoing)
+    data-out Unfixed = (so _ n u (transfers tr outgoing))
     data-out In = unexpected-kept DataOut
     data-out Out = send-data
 
@@ -156,13 +156,13 @@ module _ (s : State) (r : Running) (d : Direction) (q : Fifo) (atn ack : Bool) (
 
     take-status : (b : ℕ) (bad : Bool) → Fine (takeStatus b bad now)
     unfolding takeStatus outgoingDropped parityNoted
-    take-status b bad = unless-halted bad (n, dropped-whole d u, transfers tr (dropped-way d way))
+    take-status b bad = unless-halted bad _ (so _ n (dropped-whole d u) (transfers tr (dropped-way d way)))
 
     take-message : (b : ℕ) (bad : Bool) → Fine (takeMessage b bad now)
     unfolding takeMessage takeSave takeDisconnect parityNoted
     take-message b bad =
-        by-pick Fine _ (unless-halted bad (unless-int same (ended 0x21 _ n u joined run way)))
-        (by-pick Fine _ (unless-halted bad same) (unexpected-kept MessageIn))
+        by-pick Fine _ (unless-halted bad _ (unless-int _ _ same (ended 0x21 _ n u joined run way)))
+        (by-pick Fine _ (unless-halted bad _ (so _ n u (on q atn ack way))) (unexpected-kept MessageIn))
 
     body : (p : Phase) (b : ℕ) (bad : Bool) → Fine (bodyRequest p b bad now)
     unfolding bodyRequest unlessNoneLeft
@@ -188,14 +188,14 @@ module _ (s : State) (r : Running) (d : Direction) (q : Fifo) (atn ack : Bool) (
 
     by-stage : (g : Stage) (p : Phase) (b : ℕ) (bad : Bool) → Fine (requestAt g p b bad now)
     unfolding requestAt sendIdentify sendCommand takeIdentify takeComplete completed parityNoted
-    by-stage SendIdentify p b bad = by-pick Fine _ (n, u, on q false ack way) (unexpected-kept p)
-    by-stage (SendCommand x) p b bad = by-pick Fine _ same (unexpected-kept p)
+    by-stage SendIdentify p b bad = by-pick Fine _ (so _ n u (on q false ack way)) (unexpected-kept p)
+    by-stage (SendCommand x) p b bad = by-pick Fine _ (so _ n u (on q atn ack way)) (unexpected-kept p)
     by-stage Body p b bad = body p b bad
     by-stage AfterData p b bad = late p b bad
     by-stage Disconnecting p b bad = unexpected-kept p
-    by-stage Reselected p b bad = by-pick Fine _ (unless-halted bad same) (unexpected-kept p)
+    by-stage Reselected p b bad = by-pick Fine _ (unless-halted bad _ (so _ n u (on q atn ack way))) (unexpected-kept p)
     by-stage AfterStatus p b bad =
-        by-pick Fine _ (unless-halted bad (unless-int same (ended 0x16 _ n u joined run way))) (unexpected-kept p)
+        by-pick Fine _ (unless-halted bad _ (unless-int _ _ same (ended 0x16 _ n u joined run way))) (unexpected-kept p)
     by-stage Elsewhere p b bad = unexpected-kept p
 
     transfer-request : (identifies : Bool) (p : Phase) (b : ℕ) (bad : Bool) → Fine (transferRequest identifies p b bad now)
@@ -205,7 +205,7 @@ module _ (s : State) (r : Running) (d : Direction) (q : Fifo) (atn ack : Bool) (
 -- ---- by the shape
 
 remembers : (a : Answer) (p : Phase) (x : Reply) → Fine x → Fine (rememberedBy a p x)
-remembers (Done v) p x g = g
+remembers (Done v) p x g = so _ (g .numbers) (g .whole) (g .shape)
 remembers Held p x g = g
 remembers OutOfPlace p x g = g
 remembers BadNumber p x g = g
@@ -213,35 +213,37 @@ remembers Blind p x g = g
 remembers CommandIgnored p x g = g
 remembers ReselectionIgnored p x g = g
 remembers NoDataNow p x g = g
-remembers Reported p x g = g
+remembers Reported p x g = so _ (g .numbers) (g .whole) (g .shape)
 
 module _ (s : State) (n : Numbered s) (y : Phase) (b : ℕ) (bad : Bool) where
   by-shape : {p : Pending} {r : Running} {c : Connection} {d : Direction} {q : Fifo} {atn ack : Bool} {w : Noted}
       → Whole q → Shape p r c d q atn ack w → Fine (requestedBy c y b bad (being p r c d q atn ack w s))
   unfolding requestedConnected idleRequest
-  by-shape u (idle e h apart) = (n, u, idle e h apart)
-  by-shape u (idle e h joined) =
-      by-pick Fine _ (n, u, idle e h joined)
-      (by-pick Fine _ (n, u, idle e h joined)
-      (by-pick Fine _ (n, u, idle e h joined) (unless-int (n, u, idle e h joined) (raised _ _ n u joined (none h)))))
-  by-shape u (selects t h) = (n, u, selects t h)
-  by-shape u (waits t h) = (n, u, waits t h)
+  by-shape u (idle e o h apart) = (so _ n u (idle e o h apart))
+  by-shape u (idle e o h joined) =
+      by-pick Fine _ (so _ n u (idle e o h joined))
+      (by-pick Fine _ (so _ n u (idle e o h joined))
+      (by-pick Fine _ (so _ n u (idle e o h joined)) (unless-int _ _ (so _ n u (idle e o h joined)) (raised _ _ n u joined (none h)))))
+  by-shape u (selects t o h) = (so _ n u (selects t o h))
+  by-shape u (waits t h) = (so _ n u (waits t h))
   by-shape u (transfers with-atn h) =
-      by-pick Fine _ (n, u, transfers with-atn h)
-      (by-pick Fine _ (n, u, transfers with-atn h)
+      by-pick Fine _ (so _ n u (transfers with-atn h))
+      (by-pick Fine _ (so _ n u (transfers with-atn h))
       (transfer-request s _ _ _ _ _ _ n u refl h (λ x i j. transfers with-atn) with-atn true y b bad))
   by-shape u (transfers without-atn h) =
-      by-pick Fine _ (n, u, transfers without-atn h)
-      (by-pick Fine _ (n, u, transfers without-atn h)
+      by-pick Fine _ (so _ n u (transfers without-atn h))
+      (by-pick Fine _ (so _ n u (transfers without-atn h))
       (transfer-request s _ _ _ _ _ _ n u refl h (λ x i j. transfers without-atn) without-atn false y b bad))
   by-shape u (informs h e) =
-      by-pick Fine _ (n, u, informs h e)
-      (by-pick Fine _ (n, u, informs h e)
+      by-pick Fine _ (so _ n u (informs h e))
+      (by-pick Fine _ (so _ n u (informs h e))
       (info-request s _ _ _ _ _ _ n u refl h (λ x i j v. informs v e) y b bad e))
-  by-shape u (ending t h apart) = (n, u, ending t h apart)
-  by-shape u (ending t h joined) = by-case Fine _ (λ e. (n, u, ending t h joined)) (λ e. absurd (true≢false e))
-  by-shape u (readOut t h) = (n, u, readOut t h)
+  by-shape u (ending t h apart) = (so _ n u (ending t h apart))
+  by-shape u (ending t h joined) = by-case Fine _ (λ e. (so _ n u (ending t h joined))) (λ e. absurd (true≢false e))
+  by-shape u (readOut t h) = (so _ n u (readOut t h))
 
 pub request-kept : (p : Phase) (b : ℕ) (bad : Bool) (s : State) → Good s → Fine (requested p b bad s)
 unfolding requested remembered
-request-kept p b bad s g = remembers _ p _ (by-shape s (g .0) p b bad (g .1) (g .2))
+request-kept p b bad s g =
+    let x : Reply = requestedBy (s .wire .connection) p b bad s in
+    remembers (x .answer) p x (by-shape s (g .numbers) p b bad (g .whole) (g .shape))

@@ -1,6 +1,7 @@
 -- The facts of a state by its parts, so that what a rule leaves alone carries over; and what raising and ending leave of them.
 --   Numbers     the registers' and the identity's part of what the image's form asks for
 --   Good        the facts of a state, by its parts
+--   so          made of them
 --   Fine        the same of the state in a reply
 --   being       a state with the parts that a shape speaks of given one by one
 --   raised      a raised code leaves no command and no byte
@@ -15,7 +16,7 @@ use Rattle.chip.specs.Choice.{both, either}
 use Rattle.chip.specs.State.{empty}
 use Rattle.chip.specs.Answers.{held}
 use Rattle.chip.specs.Fifo.{isEmpty, pop}
-use Rattle.chip.specs.Interrupts.{isEnding, isInterrupt, isRunning, withoutOutgoing, outgoingDropped, raise, unread, endingWith, unlessInterrupt}
+use Rattle.chip.specs.Interrupts.{isEnding, isInterrupt, isRunning, withoutOutgoing, closed, outgoingDropped, raise, unread, endingWith, unlessInterrupt}
 use Rattle.chip.specs.declared.State.{State}
 use Rattle.chip.specs.declared.Reply.{Reply}
 use Rattle.chip.specs.declared.Fifo.{Fifo}
@@ -28,7 +29,7 @@ use Rattle.chip.specs.declared.Direction.{Direction}
 use Rattle.chip.specs.declared.Direction.the-variants.{Unfixed, In, Out}
 use Rattle.chip.specs.declared.Noted.{Noted}
 use Rattle.refusals.proofs.Cases.{by-pick, by-case}
-use Rattle.reached.specs.Sound.{Placed, Way, unfixed, incoming, outgoing, Drained, none, out, isUnread, idle, ending, Shaped, Transfers, with-atn, without-atn, Selects, six, seven, eight, nine}
+use Rattle.reached.specs.Sound.{Placed, Way, unfixed, incoming, outgoing, Drained, none, out, isUnread, isOutgoing, idle, ending, Shaped, Transfers, with-atn, without-atn, Selects, six, seven, eight, nine}
 use Rattle.reached.proofs.Fifos.{Whole, none-whole, dropped-whole}
 
 pub record Numbers (cdb : List ℕ) (n : ℕ) (own : Identity) : Type 0 where
@@ -39,8 +40,13 @@ pub record Numbers (cdb : List ℕ) (n : ℕ) (own : Identity) : Type 0 where
 abbrev pub Numbered : State → Type 0
 Numbered s = Numbers (s .registers .cdb) (s .registers .count) (s .wire .identity)
 
-abbrev pub Good : State → Type 0
-Good s = Numbered s × Whole (s .fifo) × Shaped s
+pub record Good (s : State) : Type 0 where
+  pub numbers : Numbered s
+  pub whole : Whole (s .fifo)
+  pub shape : Shaped s
+
+pub so : (s : State) → Numbered s → Whole (s .fifo) → Shaped s → Good s
+so s n u h = record { numbers = n; whole = u; shape = h }
 
 abbrev pub Fine : Reply → Type 0
 Fine r = Good (r .state)
@@ -88,6 +94,11 @@ dropped-empty In (none e) = e
 dropped-empty Out (none e) = refl
 dropped-empty Out out = refl
 
+closed-out : (d : Direction) → isOutgoing (closed d) ≡ false
+closed-out Unfixed = refl
+closed-out In = refl
+closed-out Out = refl
+
 pub transfers-run : {r : Running} → Transfers r → isRunning r ≡ true
 transfers-run with-atn = refl
 transfers-run without-atn = refl
@@ -108,12 +119,12 @@ module _ (code : ℕ) (s : State) (n : Numbered s) (u : Whole (s .fifo))
     (l : Placed (s .wire .connection) (s .wire .atn) (s .wire .ack)) where
   pub raised : Drained (s .transfer .direction) (s .fifo) → Good (raise code s)
   unfolding raise outgoingDropped
-  raised h = (n, dropped-whole (s .transfer .direction) u, idle refl (dropped-empty (s .transfer .direction) h) l)
+  raised h = (so _ n (dropped-whole (s .transfer .direction) u) (idle refl (closed-out (s .transfer .direction)) (dropped-empty (s .transfer .direction) h) l))
 
   pub ended : isRunning (s .transfer .running) ≡ true → Way (s .transfer .direction) (s .fifo) → Good (endingWith code s)
   unfolding endingWith unread
-  ended r w = by-case Good _ (λ e. (n, u, ending r e l)) (λ e. raised (way-drained w e))
+  ended r w = by-case Good _ (λ e. (so _ n u (ending r e l))) (λ e. raised (way-drained w e))
 
-pub unless-int : {s : State} {r : Reply} → Good s → Fine r → Fine (unlessInterrupt s r)
+pub unless-int : (s : State) (r : Reply) → Good s → Fine r → Fine (unlessInterrupt s r)
 unfolding unlessInterrupt
-unless-int g x = by-pick Fine _ g x
+unless-int s r g x = by-pick Fine _ g x

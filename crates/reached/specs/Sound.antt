@@ -7,6 +7,7 @@
 --   Selects     one of 06 to 09
 --   Way         where no way is fixed, no byte waits
 --   Drained     no incoming byte waits: none at all, or an outgoing FIFO
+--   isOutgoing  the way is out
 --   isUnread    incoming bytes wait
 -- The image's form enforces `ok`, and of the shapes only that no state has INT and an ending: one byte says which is pending. An
 -- image of any other combination is valid, and this room says that no list of calls comes to one that is not among the shapes.
@@ -30,6 +31,11 @@ use Rattle.chip.specs.declared.Direction.{Direction}
 use Rattle.chip.specs.declared.Direction.the-variants.{Unfixed, In, Out}
 use Rattle.chip.specs.declared.Noted.{Noted}
 use Rattle.image.specs.Ok.{Ok}
+
+abbrev pub isOutgoing : Direction → Bool
+isOutgoing Unfixed = false
+isOutgoing In = false
+isOutgoing Out = true
 
 abbrev pub isUnread : Direction → Fifo → Bool
 isUnread d q = both (isIncoming d) (not (isEmpty q))
@@ -58,12 +64,12 @@ pub data Drained : Direction → Fifo → Type 0 where
   out : {q : Fifo} → Drained Out q
 
 pub data Shape : Pending → Running → Connection → Direction → Fifo → Bool → Bool → Noted → Type 0 where
-  -- no command runs: no ending, INT or none, no byte waits, and it is Disconnected or connected
+  -- no command runs: no ending, INT or not, the way not out, no byte waits, and it is Disconnected or connected
   idle : {p : Pending} {c : Connection} {d : Direction} {q : Fifo} {atn ack : Bool} {w : Noted}
-      → isEnding p ≡ false → isEmpty q ≡ true → Placed c atn ack → Shape p Idle c d q atn ack w
-  -- selecting: one of 06 to 09 runs, no INT, no byte waits
+      → isEnding p ≡ false → isOutgoing d ≡ false → isEmpty q ≡ true → Placed c atn ack → Shape p Idle c d q atn ack w
+  -- selecting: one of 06 to 09 runs, no INT, the way not out, no byte waits
   selects : {r : Running} {d : Direction} {q : Fifo} {w : Noted}
-      → Selects r → isEmpty q ≡ true → Shape Nothing r Selecting d q false false w
+      → Selects r → isOutgoing d ≡ false → isEmpty q ≡ true → Shape Nothing r Selecting d q false false w
   -- waiting for reselection: a Select-And-Transfer runs, no INT, every incoming byte was read
   waits : {r : Running} {d : Direction} {q : Fifo} {w : Noted}
       → Transfers r → Drained d q → Shape Nothing r Waiting d q false false w

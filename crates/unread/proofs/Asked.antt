@@ -125,7 +125,7 @@ informs TransferWithoutAtn i t = clash refl t
 informs TransferInfo i t = refl
 
 module _ (n b m : ℕ) (s : State) where
-  pub reaches : {p : Phase} → Offered n b m p s
+  reaches : {p : Phase} → Offered n b m p s
       → seen (step (request n b m) s .state) ≡ shown (E.servedBy (s .transfer .running) p b (isSet m) s)
   unfolding carried E.requested E.requestedConnected
   reaches o =

@@ -195,7 +195,7 @@ module _ (n b m : ℕ) (s : State) (z : isSelecting (s .wire .connection) ≡ fa
         (λ l. unless-int _
         (λ i. ended _ refl z (o i .quiet) (λ u. B.keeps-last (last-message l i) (both-first _ _ u))
         (λ u. B.takes-last (last-message l i) (not-first _ _ u (rw (pushed b (s .fifo) r))))))
-        (λ l. (so still))
+        (λ l. so still)
       where
         last-message : both (isMessageIn p) (isLast s) ≡ true → interrupted s ≡ false → LastMessage n b m s
         last-message l i =
@@ -209,7 +209,7 @@ module _ (n b m : ℕ) (s : State) (z : isSelecting (s .wire .connection) ≡ fa
         (λ w. chosen-if Says _
         (λ c. chosen-if Says _
         (λ r. unless-halted (rw runs) p _ o (rw (info-wants p b s runs, w)) c (info-fits p r) (taken-tells p o (rw (info-wants p b s runs, w)) r))
-        (λ r. (so still)))
+        (λ r. so still))
         (λ c. info-out-tells p))
         (over-tells p o)
 
@@ -241,7 +241,7 @@ module _ (n b m : ℕ) (s : State) (z : isSelecting (s .wire .connection) ≡ fa
 
     status-tells : Comes StatusIn → expects g StatusIn b s ≡ true → Says (X.takeStatus b (isSet m) s)
     unfolding X.takeStatus outgoingDropped I.parityNoted
-    status-tells o e = taken-unless StatusIn _ o e refl (no-room StatusIn refl) (λ h. (so still))
+    status-tells o e = taken-unless StatusIn _ o e refl (no-room StatusIn refl) (λ h. so still)
 
     message-tells : Comes MessageIn → isBeforeStatus g ≡ true → expects g MessageIn b s ≡ either (eqb b 0x02) (eqb b 0x04)
         → Says (X.takeMessage b (isSet m) s)
@@ -250,7 +250,7 @@ module _ (n b m : ℕ) (s : State) (z : isSelecting (s .wire .connection) ≡ fa
         chosen-if Says _
         (λ x. taken-unless MessageIn _ o (rw (e, x)) refl (no-room MessageIn refl)
         (λ h. unless-int _ (λ i. brought _ refl z refl (o i .quiet) (B.saves (o i) runs (rw (at, early)) x h))))
-        (λ x. chosen-if Says _ (λ y. taken-unless MessageIn _ o (rw (e, x, y)) refl (no-room MessageIn refl) (λ h. (so still)))
+        (λ x. chosen-if Says _ (λ y. taken-unless MessageIn _ o (rw (e, x, y)) refl (no-room MessageIn refl) (λ h. so still))
         (λ y. surprised MessageIn o (rw (e, x, y))))
 
   module _ (runs : isTransfer (s .transfer .running) ≡ true) where
@@ -261,7 +261,7 @@ module _ (n b m : ℕ) (s : State) (z : isSelecting (s .wire .connection) ≡ fa
     take-tells : stage s ≡ Body → Comes DataIn → expectsBody DataIn b s ≡ true → Says (X.takeData b (isSet m) s)
     unfolding X.takeData I.takenIn lowered I.parityNoted fits both either expects
     take-tells at o e =
-        chosen-if Says _ (λ r. taken-unless runs Body at DataIn _ o e refl (rw (runs, r)) (λ h. (so still))) (λ r. (so still))
+        chosen-if Says _ (λ r. taken-unless runs Body at DataIn _ o e refl (rw (runs, r)) (λ h. so still)) (λ r. so still)
 
     out-tells : stage s ≡ Body → Comes DataOut → noneLeft s ≡ false → (d : Direction) → s .transfer .direction ≡ d → Says (X.dataOut d s)
     unfolding X.dataOut expects expectsBody both
@@ -316,7 +316,7 @@ module _ (n b m : ℕ) (s : State) (z : isSelecting (s .wire .connection) ≡ fa
     at-stage AfterData at p o = late-tells at p o
     at-stage Disconnecting at p o = surprised runs Disconnecting at p o refl
     at-stage Reselected at p o =
-        chosen-if Says _ (λ e. message-taken Reselected at p _ o e (both-first _ _ e) (λ h. (so still))) (surprised runs Reselected at p o)
+        chosen-if Says _ (λ e. message-taken Reselected at p _ o e (both-first _ _ e) (λ h. so still)) (surprised runs Reselected at p o)
     at-stage AfterStatus at p o =
         chosen-if Says _
         (λ e. message-taken AfterStatus at p _ o e (both-first _ _ e)
@@ -342,7 +342,7 @@ module _ (n b m : ℕ) (s : State) (z : isSelecting (s .wire .connection) ≡ fa
   unfolding E.requestedConnected
   connected-tells good x =
       chosen-if Says _ (λ e. so still)
-      (λ e. chosen-if Says _ (λ a. (so still))
+      (λ e. chosen-if Says _ (λ a. so still)
       (λ a. served-tells (phaseOf n)
       (λ i. record { good = good; phase = refl; quiet = quiet-of _ i e; connected = x; released = a }) _ refl))
 

@@ -186,8 +186,8 @@ module _
   unfolding commanded reset accepted
   commanded-tells =
       chosen-if (ToldReply (register m b) s) _ (λ e. so (resets (is-reset e) refl))
-      (λ n. chosen-if (ToldReply (register m b) s) _ (λ i. (so still))
-      (λ i. chosen-if (ToldReply (register m b) s) _ (λ r. (so still))
+      (λ n. chosen-if (ToldReply (register m b) s) _ (λ i. so still)
+      (λ i. chosen-if (ToldReply (register m b) s) _ (λ r. so still)
       (λ r. chosen-if (ToldReply (register m b) s) _ (carried-tells i _ n r)
       (λ v. let idle : busy s ≡ false = invalid-idle _ s r v in
       so (raises i (B.refuses (codeOf b) own-code n (quiet-of _ i (not-busy-ends s idle)) (not-busy-runs s idle) v)
@@ -339,7 +339,7 @@ module _ (m b : ℕ) (s : State) (good : isGood (register m b) ≡ true) where
       (λ n. chosen Says _ (so unmoved)
       (chosen-if Says _
       (λ e. so (drained {n = 1} refl (λ j d v u f. B.reads (B.byte (is-read 0x19 w e) d (omega arith) f)) (then (pops s) drains-nothing)))
-      (λ o. (so unmoved))))
+      (λ o. so unmoved)))
 
   stored-tells : (a : ℕ) → ToldState (register m b) s (stored a b s)
   unfolding stored

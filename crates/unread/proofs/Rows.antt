@@ -38,7 +38,7 @@ use Rattle.unread.specs.Status.{isCommand, readsAt}
 use Rattle.unread.specs.Because.{Quiet}
 use Rattle.unread.proofs.Choosing.{taken, passed-over, by-test, clash, second-fails, one-of}
 use Rattle.unread.proofs.Host.{some-wait, holds-some, one-less}
-use Rattle.unread.proofs.Told.{good-step, Issued, issued, Read, is-read}
+use Rattle.unread.proofs.Told.{good-step, Issued, issued, Reading, reading}
 use Rattle.unread.proofs.Asked.{seen, shown, Raised, Ended, raised-by, ended-by, open-event}
 
 -- commands
@@ -270,5 +270,5 @@ data-reachable b s = by-test (busy s) (λ e. rw e) (λ e. rw e)
 pub byte-row : (c : Call) (s : State) (k : ℕ) → readsAt 0x19 c s ≡ true → isIncoming (s .transfer .direction) ≡ true
     → waits (s .fifo) ≡ 1 → s .status .pending ≡ Ending k → Ended k false (step c s .state)
 byte-row c s k e d w p =
-    let h : Read 0x19 c s = is-read 0x19 c s e in
+    let h : Reading 0x19 c s = reading 0x19 c s e in
     stepped-ended c s 0x19 _ (h .gives) (rw (data-reachable (h .byte) s) (data-raises k s d w p))

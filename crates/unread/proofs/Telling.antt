@@ -56,17 +56,24 @@ pub data Leaves (s : State) : Connection → Type 0 where
   there : (Quiet s → isRunning (s .transfer .running) ≡ false) → Leaves s (s .wire .connection)
 
 pub data Tells (c : Call) (s : State) : Standing → Type 0 where
+  -- all four as they were; no Answer that a sound selection would have taken
   silent : (Quiet s → isAnswer c ≡ false) → Tells c s (standing s)
+  -- the connection or the command moves, and no selection runs
   moves : {x : Connection} {r : Running} → isSelecting x ≡ false
       → Tells c s (record { code = s .status .code; pending = s .status .pending; connection = x; running = r })
+  -- a selection begins
   selects : {r : Running} → isSelection c s ≡ true → Quiet s → isRunning r ≡ true
       → Tells c s (record { code = s .status .code; pending = s .status .pending; connection = Selecting; running = r })
+  -- what was pending goes, or bytes are read out with no code to come
   settles : {q : Pending} {x : Connection} {r : Running} → interrupted s ≡ false → isPlain q ≡ true → isSelecting x ≡ false
       → Tells c s (record { code = s .status .code; pending = q; connection = x; running = r })
+  -- an ending begins
   begins : {k : ℕ} {x : Connection} {r : Running} → Quiet s → Begins c s k → isSelecting x ≡ false
       → Tells c s (record { code = s .status .code; pending = Ending k; connection = x; running = r })
+  -- a code is raised
   raises : {k : ℕ} {x : Connection} {r : Running} → interrupted s ≡ false → Because c s k → Leaves s x
       → Tells c s (record { code = k; pending = Interrupt; connection = x; running = r })
+  -- 17h is read
   reads : readsAt 0x17 c s ≡ true → isAnswer c ≡ false
       → Tells c s
       (record {
@@ -75,6 +82,7 @@ pub data Tells (c : Call) (s : State) : Standing → Type 0 where
         connection = s .wire .connection;
         running = s .transfer .running;
       })
+  -- Reset
   resets : {x : Connection} {r : Running} → isReset c s ≡ true → isSelecting x ≡ false
       → Tells c s (record { code = 0; pending = Interrupt; connection = x; running = r })
 

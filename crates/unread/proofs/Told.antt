@@ -4,7 +4,7 @@
 --   Issued         a command, as the step takes it
 --   issued         .. of a call that writes a command
 --   reset-told     Reset raises 00
---   Read is-read   a register read, as the step takes it
+--   Reading reading   a register read, as the step takes it
 --   ReadTold       what a read of 17h answers and leaves: Blind, or the code
 --   status-read    .. of a call that reads 17h
 use mathlib.Core.Path.{_≡_, refl, ap, ap₂, _∙_}
@@ -110,23 +110,23 @@ reset-told c s e =
 
 -- reads
 
-pub record Read (a : ℕ) (c : Call) (s : State) : Type 0 where
+pub record Reading (a : ℕ) (c : Call) (s : State) : Type 0 where
   pub byte : ℕ
   pub gives : step c s ≡ plain (R.stepped a (R.accessedAt a false byte s))
 
-pub is-read : (a : ℕ) (c : Call) (s : State) → readsAt a c s ≡ true → Read a c s
+pub reading : (a : ℕ) (c : Call) (s : State) → readsAt a c s ≡ true → Reading a c s
 unfolding readsAt
-is-read a (pointer m b) s e = clash e refl
-is-read a auxiliary s e = clash e refl
-is-read a (register m b) s e =
+reading a (pointer m b) s e = clash e refl
+reading a auxiliary s e = clash e refl
+reading a (register m b) s e =
     let f : both (not (isSet m)) (eqb (s .status .pointer) a) ≡ true = both-second (isGood (register m b)) _ e in
     record { byte = b; gives = access-step m b s a false (both-first _ _ e) (not-true _ (both-first _ _ f)) (both-second (not (isSet m)) _ f) }
-is-read a (block m l) s e = clash e refl
-is-read a (time n) s e = clash e refl
-is-read a answer s e = clash e refl
-is-read a (reselection lines) s e = clash e refl
-is-read a (request p b q) s e = clash e refl
-is-read a free s e = clash e refl
+reading a (block m l) s e = clash e refl
+reading a (time n) s e = clash e refl
+reading a answer s e = clash e refl
+reading a (reselection lines) s e = clash e refl
+reading a (request p b q) s e = clash e refl
+reading a free s e = clash e refl
 
 pub data ReadTold (s : State) : Outcome → Type 0 where
   blind : {o : Outcome} → o .answer ≡ Blind → o .state .status .code ≡ s .status .code
@@ -141,5 +141,5 @@ readable b s = read refl refl refl
 pub status-read : (c : Call) (s : State) → readsAt 0x17 c s ≡ true → ReadTold s (step c s)
 unfolding R.stepped R.accessedAt
 status-read c s e =
-    let h : Read 0x17 c s = is-read 0x17 c s e in
+    let h : Reading 0x17 c s = reading 0x17 c s e in
     rw (h .gives) (chosen (λ (r : Reply). ReadTold s (plain (R.stepped 0x17 r))) _ (blind refl refl refl) (readable (h .byte) s))

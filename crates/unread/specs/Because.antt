@@ -10,10 +10,13 @@
 --   Offered n b m p s    the Request n b m, of phase p, comes to the running command
 --   LastMessage n b m s  .. is the last Message In byte of a Transfer Info
 --   stage s              what the phase register of the running Select-And-Transfer stands for
---   expects g p b s      at the stage g a Request of phase p with the byte b is expected
---   wants p b s          .. by the running command: a byte of it would cross, were there room or a byte
+--   expects g p b s      at the stage g a Request of phase p with the byte b is expected (expectsBody, expectsLate: two stages of it)
+--   isBeforeStatus g     the stage g is one that takes the messages 02 and 04
+--   wants p b s          the running command wants it: a byte of it would cross, were there room or a byte
 --   fits p s             there is room for a byte of phase p
 --   halts m s            with the parity m a byte that would be taken in is not: it halts the transfer
+--   isSpent s            the running command is a Transfer Info whose count is used up
+--   isOut d              the direction d is out
 use mathlib.Core.Path.{_≡_}
 use mathlib.Core.Bool.{Bool, true, false, not}
 use mathlib.Core.List.{List}
@@ -116,11 +119,9 @@ fits p s = either (both (isTransfer (s .transfer .running)) (not (samePhase p Da
 unfoldable pub halts : ℕ → State → Bool
 halts m s = both (isSet m) (hsp s)
 
--- the running command is a Transfer Info whose count is used up
 unfoldable pub isSpent : State → Bool
 isSpent s = both (not (isTransfer (s .transfer .running))) (noneLeft s)
 
--- where the messages 02 and 04 are taken
 abbrev pub isBeforeStatus : Stage → Bool
 isBeforeStatus SendIdentify = false
 isBeforeStatus (SendCommand x) = false

@@ -4,6 +4,7 @@
 --   EndingsBegun f     a pending ending was begun as the table says, and has been pending since
 --   Unanswered f l     a selection began in l, has gone on since, and no Answer came to it
 --   SelectionsBegun f  .. wherever a selection runs
+--   ByFree f l c k     the call c is a Free, or the read that ends the read-out that a Free began
 --   CodesOnlyBy f      who raises which code
 use mathlib.Core.Path.{_≡_}
 use mathlib.Core.Bool.{true, false}
@@ -42,7 +43,6 @@ Unanswered f l =
 pub record SelectionsBegun (f : Call → State → Outcome) : Type 0 where
   pub begun : (l : List Call) → run f l fresh .wire .connection ≡ Selecting → Unanswered f l
 
--- the call is a Free, or the read that ends the read-out that a Free began
 abbrev pub ByFree : (Call → State → Outcome) → List Call → Call → ℕ → Type 0
 ByFree f l c k =
     (c ≡ free) ⊎ (ReadsOut c (run f l fresh) k × Since f (λ d s. d ≡ free) (λ d s. s .status .pending ≡ Ending k) l)

@@ -1,6 +1,7 @@
 -- What becomes of the status at 17h over any list of calls: no code is lost and none is stale.
 --   Happening             one thing that a call does to the status: a code raised, a Reset, a read of 17h
 --   noted c s o           what the call c did, made in s and with the outcome o
+--   readBy a              .. where it reads 17h and is answered a
 --   history f l s         what the calls l did, one after the other, from s
 --   run f l s             the state that they lead to
 --   lastCode k h          the code raised last in h, k where none was
@@ -25,7 +26,6 @@ pub data Happening : Type 0 where
   resets : Happening
   reads : (byte : ℕ) → Happening
 
--- a read of 17h that is answered with a byte
 abbrev pub readBy : Answer → List Happening
 readBy (Done v) = reads v ∷ []
 readBy Held = []

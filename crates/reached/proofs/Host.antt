@@ -1,0 +1,162 @@
+-- The Data register, the other registers and a block keep the facts.
+--   data-read-kept, data-written-kept, block-read-kept, block-written-kept   of the Data register
+--   stored-kept, status-read-kept                                            of a register written, and of SCSI Status read
+use mathlib.Core.Path.{_≡_, refl, sym, _∙_}
+use mathlib.Core.Bool.{Bool, true, false, not, true≢false, false≢true}
+use mathlib.Core.List.{List, [], _∷_}
+use Prim.Native.Nat.{ℕ, _<_}
+use native.Mathlib.Omega.{arith}
+use lib.ListN.{length-set}
+use borrow.Author.Tests.{not-true}
+use Rattle.chip.specs.Choice.{pick, both}
+use Rattle.chip.specs.State.{setFifo, setPending}
+use Rattle.chip.specs.Fifo.{isEmpty, pop, push}
+use Rattle.chip.specs.Interrupts.{isEnding, settledBy, settled, withoutInterrupt}
+use Rattle.chip.specs.TransferInfo.{dbr}
+use Rattle.chip.specs.Registers.{highWritten, middleWritten, lowWritten, stored, dataReadBy, dataRead, dataWrittenBy, dataWritten, Moved, goOn, andThen, stopped, blockRead, blockWritten}
+use Rattle.chip.specs.declared.State.{State}
+use Rattle.chip.specs.declared.Answer.{Answer}
+use Rattle.chip.specs.declared.Answer.the-variants.{Done, Held, OutOfPlace, BadNumber, Blind, CommandIgnored, ReselectionIgnored, NoDataNow, Reported}
+use Rattle.chip.specs.declared.Fifo.{Fifo}
+use Rattle.chip.specs.declared.Pending.{Pending}
+use Rattle.chip.specs.declared.Pending.the-variants.{Nothing, Interrupt, Ending, ReadOut}
+use Rattle.chip.specs.declared.Running.{Running}
+use Rattle.chip.specs.declared.Connection.{Connection}
+use Rattle.chip.specs.declared.Direction.{Direction}
+use Rattle.chip.specs.declared.Direction.the-variants.{Unfixed, In, Out}
+use Rattle.chip.specs.declared.Noted.{Noted}
+use Rattle.refusals.proofs.Cases.{by-pick, by-case, both-first}
+use Rattle.reached.specs.Sound.{isUnread, Placed, Way, outgoing, none, out, Shape, idle, selects, waits, transfers, informs, ending, readOut}
+use Rattle.reached.proofs.Fifos.{Whole, pop-whole, push-whole}
+use Rattle.reached.proofs.Shapes.{Numbers, Numbered, Good, so, Fine, being, pop-way, raised}
+
+-- ---- the Data register
+
+clash : {q : Fifo} {A : Type 0} → isEmpty q ≡ true → isEmpty q ≡ false → A
+clash e f = absurd (true≢false (sym e ∙ f))
+
+still : (d : Direction) (q x : Fifo) → isUnread d q ≡ true → isEmpty x ≡ false → isUnread d x ≡ true
+unfolding both
+still d q x h e =
+    let i = both-first _ (not (isEmpty q)) h in
+    rw (i, e)
+
+module _ (s : State) (n : Numbered s) where
+  settles : {p : Pending} {r : Running} {c : Connection} {d : Direction} {q : Fifo} {atn ack : Bool} {w : Noted}
+      → Whole q → isEmpty q ≡ false → Shape p r c d q atn ack w → Good (settled (being p r c d (pop q) atn ack w s))
+  unfolding settled settledBy
+  settles u f (idle e o h l) = clash h f
+  settles u f (selects k o h) = clash h f
+  settles u f (waits k (none h)) = clash h f
+  settles {q = q} u f (waits k out) =
+      by-pick Good _ (so _ n (pop-whole q u) (waits k out)) (so _ n (pop-whole q u) (waits k out))
+  settles {q = q} u f (transfers k h) =
+      by-pick Good _ (so _ n (pop-whole q u) (transfers k (pop-way h))) (so _ n (pop-whole q u) (transfers k (pop-way h)))
+  settles {q = q} u f (informs h e) =
+      by-pick Good _ (so _ n (pop-whole q u) (informs (pop-way h) e)) (so _ n (pop-whole q u) (informs (pop-way h) e))
+  settles {d = d} {q = q} u f (ending k h l) =
+      by-case Good _ (λ e. raised _ _ n (pop-whole q u) l (none e))
+      (λ e. so _ n (pop-whole q u) (ending k (still d q (pop q) h e) l))
+  settles {d = d} {q = q} u f (readOut k h) =
+      by-case Good _ (λ e. so _ n (pop-whole q u) (waits k (none e)))
+      (λ e. so _ n (pop-whole q u) (readOut k (still d q (pop q) h e)))
+
+  data-read : (d : Direction) {p : Pending} {r : Running} {c : Connection} {q : Fifo} {atn ack : Bool} {w : Noted}
+      → Whole q → Shape p r c d q atn ack w → Fine (dataReadBy d (being p r c d q atn ack w s))
+  unfolding dbr
+  data-read Unfixed u g = so _ n u g
+  data-read In {q = q} u g = by-case Fine _ (λ e. settles u (not-true (isEmpty q) e) g) (λ e. so _ n u g)
+  data-read Out u g = so _ n u g
+
+  -- a byte more, going out
+  more : (b : ℕ) {p : Pending} {r : Running} {c : Connection} {q : Fifo} {atn ack : Bool} {w : Noted}
+      → Shape p r c Out q atn ack w → Shape p r c Out (push b q) atn ack w
+  unfolding both
+  more b (idle e o h l) = absurd (true≢false o)
+  more b (selects k o h) = absurd (true≢false o)
+  more b (waits k h) = waits k out
+  more b (transfers k h) = transfers k outgoing
+  more b (informs h e) = informs outgoing e
+  more b (ending k h l) = absurd (false≢true h)
+  more b (readOut k h) = absurd (false≢true h)
+
+  data-written : (d : Direction) (b : ℕ) {p : Pending} {r : Running} {c : Connection} {q : Fifo} {atn ack : Bool} {w : Noted}
+      → Whole q → Shape p r c d q atn ack w → Fine (dataWrittenBy d b (being p r c d q atn ack w s))
+  data-written Unfixed b u g = so _ n u g
+  data-written In b u g = so _ n u g
+  data-written Out b {q = q} u g = by-pick Fine _ (so _ n (push-whole q u b) (more b g)) (so _ n u g)
+
+pub data-read-kept : (s : State) → Good s → Fine (dataRead s)
+unfolding dataRead
+data-read-kept s g = data-read s (g .numbers) (s .transfer .direction) (g .whole) (g .shape)
+
+pub data-written-kept : (b : ℕ) (s : State) → Good s → Fine (dataWritten b s)
+unfolding dataWritten
+data-written-kept b s g = data-written s (g .numbers) (s .transfer .direction) b (g .whole) (g .shape)
+
+goes : (a : Answer) (on : ℕ → Moved) (stop : Moved) → ((v : ℕ) → Good (on v .state)) → Good (stop .state) → Good (goOn a on stop .state)
+goes (Done v) on stop x y = x v
+goes Held on stop x y = y
+goes OutOfPlace on stop x y = y
+goes BadNumber on stop x y = y
+goes Blind on stop x y = y
+goes CommandIgnored on stop x y = y
+goes ReselectionIgnored on stop x y = y
+goes NoDataNow on stop x y = y
+goes Reported on stop x y = y
+
+pub block-read-kept : (l : List ℕ) (s : State) → Good s → Good (blockRead l s .state)
+unfolding blockRead
+block-read-kept [] s g = g
+block-read-kept (b ∷ l) s g =
+    goes (dataRead s .answer) (λ v. andThen v (blockRead l (dataRead s .state))) (stopped (b ∷ l) s)
+    (λ v. block-read-kept l (dataRead s .state) (data-read-kept s g)) g
+
+pub block-written-kept : (l : List ℕ) (s : State) → Good s → Good (blockWritten l s .state)
+unfolding blockWritten
+block-written-kept [] s g = g
+block-written-kept (b ∷ l) s g =
+    goes (dataWritten b s .answer) (λ v. andThen b (blockWritten l (dataWritten b s .state))) (stopped (b ∷ l) s)
+    (λ v. block-written-kept l (dataWritten b s .state) (data-written-kept b s g)) g
+
+-- ---- the other registers
+
+pub stored-kept : (a b : ℕ) (s : State) → b < 256 → Good s → Good (stored a b s)
+unfolding stored highWritten middleWritten lowWritten
+stored-kept a b s small g =
+    let n = g .numbers in
+    let c = n .count-below in
+    by-pick Good _ (so _ n (g .whole) (g .shape))
+    (by-pick Good _ (so _ n (g .whole) (g .shape))
+    (by-pick Good _ (so _ n (g .whole) (g .shape))
+    (by-pick Good _
+    (so _ (record { cdb-long = rw length-set (n .cdb-long); count-below = n .count-below; identity-below = n .identity-below }) (g .whole) (g .shape))
+    (by-pick Good _ (so _ n (g .whole) (g .shape))
+    (by-pick Good _ (so _ n (g .whole) (g .shape))
+    (by-pick Good _ (so _ n (g .whole) (g .shape))
+    (by-pick Good _
+    (so _ (record { cdb-long = n .cdb-long; count-below = omega arith; identity-below = n .identity-below }) (g .whole) (g .shape))
+    (by-pick Good _
+    (so _ (record { cdb-long = n .cdb-long; count-below = omega arith; identity-below = n .identity-below }) (g .whole) (g .shape))
+    (by-pick Good _
+    (so _ (record { cdb-long = n .cdb-long; count-below = omega arith; identity-below = n .identity-below }) (g .whole) (g .shape))
+    (by-pick Good _ (so _ n (g .whole) (g .shape)) (so _ n (g .whole) (g .shape))))))))))))
+
+quieter : (p : Pending) → isEnding p ≡ false → isEnding (withoutInterrupt p) ≡ false
+quieter Nothing e = e
+quieter Interrupt e = e
+quieter (Ending c) e = e
+quieter ReadOut e = e
+
+read-shape : {p : Pending} {r : Running} {c : Connection} {d : Direction} {q : Fifo} {atn ack : Bool} {w : Noted}
+    → Shape p r c d q atn ack w → Shape (withoutInterrupt p) r c d q atn ack w
+read-shape {p = p} (idle e o h l) = idle (quieter p e) o h l
+read-shape (selects k o h) = selects k o h
+read-shape (waits k h) = waits k h
+read-shape (transfers k h) = transfers k h
+read-shape (informs h e) = informs h e
+read-shape (ending k h l) = ending k h l
+read-shape (readOut k h) = readOut k h
+
+pub status-read-kept : (s : State) → Good s → Good (setPending (withoutInterrupt (s .status .pending)) s)
+status-read-kept s g = so _ (g .numbers) (g .whole) (read-shape (g .shape))
