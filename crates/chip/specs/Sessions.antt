@@ -107,7 +107,7 @@ sessions =
     -- 7: "Pointer FFh read: FFh, pointer 00. At 19h it stays."
     ∷ ((pointer 1 0xFF ⇒ Done 0) ∷ (register 0 0 ⇒ Blind) ∷ (pointer 0 0 ⇒ Done 0x00) ∷ [])
     ∷ ((pointer 1 0x19 ⇒ Done 0) ∷ (register 0 0 ⇒ NoDataNow) ∷ (pointer 0 0 ⇒ Done 0x19) ∷ [])
-    -- 8: "Phase 8: answer 3." Phase 7 is none; "Command 20h with INT: answer 5, auxiliary C0h."
+    -- 8: "Phase 8: answer 3." Phase 7 is good. "Command 20h with INT: answer 5, auxiliary C0h."
     ∷ (selected ++ (asks 8 0 BadNumber ∷ asks 7 0 Reported ∷ reads 0x17 0x8F))
     ∷ (writes 0x18 0x20 ++ ((auxiliary ⇒ Done 0x80) ∷ (register 1 0x20 ⇒ CommandIgnored) ∷ (auxiliary ⇒ Done 0xC0) ∷ []))
     -- 9: "Abort while an incoming FIFO holds 3: three reads, then the code."
