@@ -1,14 +1,11 @@
 -- The other bus events keep the facts.
 --   time-kept, answer-kept, reselection-kept, free-kept   of each event, from every shape
-use mathlib.Core.Path.{_≡_, refl}
-use mathlib.Core.Bool.{Bool, true, false, true≢false, false≢true}
+use mathlib.Core.Bool.{Bool, false, true≢false, false≢true}
 use Prim.Native.Nat.{ℕ}
-use Rattle.chip.specs.Choice.{pick, either}
 use Rattle.chip.specs.Interrupts.{unread}
 use Rattle.chip.specs.SelectAndTransfer.{freeToWait, freeAfterDisconnect, transferFree}
-use Rattle.chip.specs.Events.{timedOut, selectionTime, passedBy, passed, connected, answeredState, answeredSelecting, answeredBy, answered, reselectedState, reselectedLoud, reselectedWaiting, reselectedBy, reselected, busFree, idleFree, freedFrom, freedBy, freed}
+use Rattle.chip.specs.Events.{timedOut, selectionTime, passedBy, passed, connected, answeredState, answeredSelecting, answeredBy, answered, reselectedState, reselectedLoud, reselectedWaiting, reselectedBy, reselected, busFree, idleFree, freedBy, freed}
 use Rattle.chip.specs.declared.State.{State}
-use Rattle.chip.specs.declared.Reply.{Reply}
 use Rattle.chip.specs.declared.Fifo.{Fifo}
 use Rattle.chip.specs.declared.Pending.{Pending}
 use Rattle.chip.specs.declared.Pending.the-variants.{Nothing}
@@ -18,15 +15,15 @@ use Rattle.chip.specs.declared.Connection.the-variants.{Connected}
 use Rattle.chip.specs.declared.Direction.{Direction}
 use Rattle.chip.specs.declared.Noted.{Noted}
 use Rattle.refusals.proofs.Cases.{by-pick, by-case}
-use Rattle.reached.specs.Sound.{Placed, apart, joined, Way, Drained, none, Shape, idle, selects, waits, transfers, informs, ending, readOut, Transfers, with-atn, without-atn, Selects, six, seven, eight, nine}
+use Rattle.reached.specs.Sound.{apart, joined, Way, Drained, none, Shape, idle, selects, waits, transfers, informs, ending, readOut, Transfers, with-atn, without-atn, transfer, info, Selects, six, seven, eight, nine}
 use Rattle.reached.proofs.Fifos.{Whole}
-use Rattle.reached.proofs.Shapes.{Numbered, Good, so, Fine, being, empty-way, drained-way, way-drained, raised, ended, unless-int, transfers-run}
+use Rattle.reached.proofs.Shapes.{Numbered, Good, so, Fine, being, empty-way, drained-way, way-drained, raised, ended, unless-int}
 
 module _ (s : State) (n : Numbered s) where
   -- ---- Time
 
   time-by : (t : ℕ) {p : Pending} {r : Running} {c : Connection} {d : Direction} {q : Fifo} {atn ack : Bool} {w : Noted}
-      → Whole q → Shape p r c d q atn ack w → Fine (passedBy c t (being p r c d q atn ack w s))
+      → Whole q → Shape (s .transfer .one) (s .registers .count) p r c d q atn ack w → Fine (passedBy c t (being p r c d q atn ack w s))
   unfolding selectionTime timedOut
   time-by t u (idle e o h apart) = so _ n u (idle e o h apart)
   time-by t u (idle e o h joined) = so _ n u (idle e o h joined)
@@ -44,7 +41,8 @@ module _ (s : State) (n : Numbered s) where
   -- ---- Answer
 
   answer-selecting : {r : Running} {c : Connection} {d : Direction} {q : Fifo} {w : Noted}
-      → Whole q → Selects r → Shape Nothing r c d q false false w → Drained d q → Way d q
+      → Whole q → Selects r → Shape (s .transfer .one) (s .registers .count) Nothing r c d q false false w
+      → Drained (s .transfer .one) (s .registers .count) d q → Way (s .transfer .one) (s .registers .count) d q
       → Fine (answeredSelecting (being Nothing r c d q false false w s))
   unfolding answeredSelecting answeredState connected
   answer-selecting u six g h v =
@@ -59,7 +57,7 @@ module _ (s : State) (n : Numbered s) where
       by-pick Fine _ (so _ n u g) (by-case Fine _ (λ e. so _ n u (transfers without-atn v)) (λ e. absurd (true≢false e)))
 
   answer-by : {p : Pending} {r : Running} {c : Connection} {d : Direction} {q : Fifo} {atn ack : Bool} {w : Noted}
-      → Whole q → Shape p r c d q atn ack w → Fine (answeredBy c (being p r c d q atn ack w s))
+      → Whole q → Shape (s .transfer .one) (s .registers .count) p r c d q atn ack w → Fine (answeredBy c (being p r c d q atn ack w s))
   answer-by u (idle e o h apart) = so _ n u (idle e o h apart)
   answer-by u (idle e o h joined) = so _ n u (idle e o h joined)
   answer-by u (selects k o h) = answer-selecting u k (selects k o h) (none h) (empty-way _ h)
@@ -73,12 +71,13 @@ module _ (s : State) (n : Numbered s) where
   -- ---- Reselection
 
   loud : (lines : ℕ) {p : Pending} {r : Running} {c : Connection} {d : Direction} {q : Fifo} {atn ack : Bool} {w : Noted}
-      → Whole q → Shape p r c d q atn ack w → Drained d q → Fine (reselectedLoud lines (being p r c d q atn ack w s))
+      → Whole q → Shape (s .transfer .one) (s .registers .count) p r c d q atn ack w
+      → Drained (s .transfer .one) (s .registers .count) d q → Fine (reselectedLoud lines (being p r c d q atn ack w s))
   unfolding reselectedLoud reselectedState connected
   loud lines u g h = unless-int _ _ (so _ n u g) (raised 0x80 _ n u joined h)
 
   reselection-by : (lines : ℕ) {p : Pending} {r : Running} {c : Connection} {d : Direction} {q : Fifo} {atn ack : Bool} {w : Noted}
-      → Whole q → Shape p r c d q atn ack w → Fine (reselectedBy c lines (being p r c d q atn ack w s))
+      → Whole q → Shape (s .transfer .one) (s .registers .count) p r c d q atn ack w → Fine (reselectedBy c lines (being p r c d q atn ack w s))
   unfolding reselectedWaiting reselectedState connected
   reselection-by lines u (idle e o h apart) =
       by-pick Fine _ (so _ n u (idle e o h apart)) (loud lines u (idle e o h apart) (none h))
@@ -96,18 +95,18 @@ module _ (s : State) (n : Numbered s) where
 
   -- ---- Free
 
-  transfer-free : {r : Running} {d : Direction} {q : Fifo} (atn ack : Bool) (w : Noted) → Whole q → Transfers r → Way d q
+  transfer-free : {r : Running} {d : Direction} {q : Fifo} (atn ack : Bool) (w : Noted) → Whole q → Transfers r → Way (s .transfer .one) (s .registers .count) d q
       → (let t = being Nothing r Connected d q atn ack w s in Fine (transferFree t (busFree t)))
   unfolding transferFree freeAfterDisconnect freeToWait busFree unread
   transfer-free atn ack w u k h =
       let g = so (being Nothing _ Connected _ _ atn ack w s) n u (transfers k h) in
       by-pick Fine _
-      (by-pick Fine _ (unless-int _ _ g (ended 0x85 _ n u apart (transfers-run k) h))
+      (by-pick Fine _ (unless-int _ _ g (ended 0x85 _ n u apart (transfer k) h))
       (by-case Fine _ (λ e. unless-int _ _ g (so _ n u (readOut k e))) (λ e. so _ n u (waits k (way-drained h e)))))
-      (unless-int _ _ g (ended 0x41 _ n u apart (transfers-run k) h))
+      (unless-int _ _ g (ended 0x41 _ n u apart (transfer k) h))
 
   free-by : {p : Pending} {r : Running} {c : Connection} {d : Direction} {q : Fifo} {atn ack : Bool} {w : Noted}
-      → Whole q → Shape p r c d q atn ack w → Fine (freedBy c (being p r c d q atn ack w s))
+      → Whole q → Shape (s .transfer .one) (s .registers .count) p r c d q atn ack w → Fine (freedBy c (being p r c d q atn ack w s))
   unfolding idleFree busFree
   free-by u (idle e o h apart) = so _ n u (idle e o h apart)
   free-by u (idle e o h joined) =
@@ -118,7 +117,7 @@ module _ (s : State) (n : Numbered s) where
   free-by u (transfers without-atn h) = by-pick Fine _ (so _ n u (transfers without-atn h)) (transfer-free _ _ _ u without-atn h)
   free-by u (informs h e) =
       by-pick Fine _ (so _ n u (informs h e))
-      (unless-int _ _ (so _ n u (informs h e)) (ended _ _ n u apart refl h))
+      (unless-int _ _ (so _ n u (informs h e)) (ended _ _ n u apart info h))
   free-by u (ending k h apart) = so _ n u (ending k h apart)
   free-by u (ending k h joined) = by-case Fine _ (λ e. so _ n u (ending k h joined)) (λ e. absurd (true≢false e))
   free-by u (readOut k h) = so _ n u (readOut k h)

@@ -1,14 +1,14 @@
 -- The FIFO's form, as the image asks for it, is kept by what is done to a FIFO.
 --   Whole         12 places, at most 12 bytes wait, the other places are 0
 --   none-whole, pop-whole, push-whole, dropped-whole   of the empty FIFO, one byte less, one more, an outgoing one dropped
-use mathlib.Core.Path.{_≡_, refl, sym, ap, _∙_}
-use mathlib.Core.Bool.{true, false}
+use mathlib.Core.Path.{_≡_, refl, ap, _∙_}
+use mathlib.Core.Bool.{true}
 use mathlib.Core.List.{List, [], _∷_, _++_}
 use Prim.Native.Nat.{ℕ, suc, _+_, _-_, _<_, _≤_}
 use native.Mathlib.Numerals.{add-one}
 use native.Mathlib.Omega.{arith}
-use lib.Dec.{eqb, ltb}
-use lib.ListN.{length, drop, getD, set, length-append, length-drop, length-set}
+use lib.Dec.{eqb}
+use lib.ListN.{length, drop, getD, length-append, length-drop, length-set}
 use lib.Seq.{drop-cons, drop-append-le, drop-drop, drop-set-lt}
 use borrow.Author.Tests.{ltb-true, eqb-false}
 use Rattle.chip.specs.Choice.{both}

@@ -1,17 +1,20 @@
 -- The Data register, the other registers and a block keep the facts.
 --   data-read-kept, data-written-kept, block-read-kept, block-written-kept   of the Data register
 --   stored-kept, status-read-kept                                            of a register written, and of SCSI Status read
-use mathlib.Core.Path.{_≡_, refl, sym, _∙_}
-use mathlib.Core.Bool.{Bool, true, false, not, true≢false, false≢true}
+use mathlib.Core.Path.{_≡_}
+use mathlib.Core.Bool.{Bool, true, false, true≢false, false≢true}
 use mathlib.Core.List.{List, [], _∷_}
-use Prim.Native.Nat.{ℕ, _<_}
+use Prim.Native.Nat.{ℕ, _<_, _≤_}
 use native.Mathlib.Omega.{arith}
+use lib.Dec.{ltb}
 use lib.ListN.{length-set}
-use borrow.Author.Tests.{not-true}
-use Rattle.chip.specs.Choice.{pick, both}
-use Rattle.chip.specs.State.{setFifo, setPending}
-use Rattle.chip.specs.Fifo.{isEmpty, pop, push}
-use Rattle.chip.specs.Interrupts.{isEnding, settledBy, settled, withoutInterrupt}
+use borrow.Author.Tests.{not-true, ltb-true}
+use Rattle.chip.specs.Choice.{pick, both, either}
+use Rattle.chip.specs.State.{setPending}
+use Rattle.chip.specs.Fifo.{isEmpty, hasRoom, pop, push}
+use Rattle.chip.specs.Fifo as F
+use Rattle.chip.specs.Count.{left}
+use Rattle.chip.specs.Interrupts.{isEnding, isRunning, settledBy, settled, withoutInterrupt}
 use Rattle.chip.specs.TransferInfo.{dbr}
 use Rattle.chip.specs.Registers.{highWritten, middleWritten, lowWritten, stored, dataReadBy, dataRead, dataWrittenBy, dataWritten, Moved, goOn, andThen, stopped, blockRead, blockWritten}
 use Rattle.chip.specs.declared.State.{State}
@@ -25,31 +28,28 @@ use Rattle.chip.specs.declared.Connection.{Connection}
 use Rattle.chip.specs.declared.Direction.{Direction}
 use Rattle.chip.specs.declared.Direction.the-variants.{Unfixed, In, Out}
 use Rattle.chip.specs.declared.Noted.{Noted}
-use Rattle.refusals.proofs.Cases.{by-pick, by-case, both-first}
-use Rattle.reached.specs.Sound.{isUnread, Placed, Way, outgoing, none, out, Shape, idle, selects, waits, transfers, informs, ending, readOut}
+use Rattle.refusals.proofs.Cases.{by-pick, by-case, both-first, either-first}
+use Rattle.reached.specs.Sound.{isUnread, outgoing, none, out, Shape, idle, selects, waits, transfers, informs, ending, readOut}
 use Rattle.reached.proofs.Fifos.{Whole, pop-whole, push-whole}
-use Rattle.reached.proofs.Shapes.{Numbers, Numbered, Good, so, Fine, being, pop-way, raised}
+use Rattle.reached.proofs.Shapes.{Numbered, Good, so, Fine, being, clash, fewer, pop-way, raised, transfers-run}
 
 -- ---- the Data register
 
-clash : {q : Fifo} {A : Type 0} → isEmpty q ≡ true → isEmpty q ≡ false → A
-clash e f = absurd (true≢false (sym e ∙ f))
-
 still : (d : Direction) (q x : Fifo) → isUnread d q ≡ true → isEmpty x ≡ false → isUnread d x ≡ true
 unfolding both
-still d q x h e =
-    let i = both-first _ (not (isEmpty q)) h in
-    rw (i, e)
+still Unfixed q x h e = h
+still In q x h e = rw e
+still Out q x h e = h
 
 module _ (s : State) (n : Numbered s) where
   settles : {p : Pending} {r : Running} {c : Connection} {d : Direction} {q : Fifo} {atn ack : Bool} {w : Noted}
-      → Whole q → isEmpty q ≡ false → Shape p r c d q atn ack w → Good (settled (being p r c d (pop q) atn ack w s))
+      → Whole q → isEmpty q ≡ false → Shape (s .transfer .one) (s .registers .count) p r c d q atn ack w → Good (settled (being p r c d (pop q) atn ack w s))
   unfolding settled settledBy
   settles u f (idle e o h l) = clash h f
   settles u f (selects k o h) = clash h f
   settles u f (waits k (none h)) = clash h f
-  settles {q = q} u f (waits k out) =
-      by-pick Good _ (so _ n (pop-whole q u) (waits k out)) (so _ n (pop-whole q u) (waits k out))
+  settles {q = q} u f (waits k (out h)) =
+      by-pick Good _ (so _ n (pop-whole q u) (waits k (out (fewer q _ h)))) (so _ n (pop-whole q u) (waits k (out (fewer q _ h))))
   settles {q = q} u f (transfers k h) =
       by-pick Good _ (so _ n (pop-whole q u) (transfers k (pop-way h))) (so _ n (pop-whole q u) (transfers k (pop-way h)))
   settles {q = q} u f (informs h e) =
@@ -62,7 +62,7 @@ module _ (s : State) (n : Numbered s) where
       (λ e. so _ n (pop-whole q u) (readOut k (still d q (pop q) h e)))
 
   data-read : (d : Direction) {p : Pending} {r : Running} {c : Connection} {q : Fifo} {atn ack : Bool} {w : Noted}
-      → Whole q → Shape p r c d q atn ack w → Fine (dataReadBy d (being p r c d q atn ack w s))
+      → Whole q → Shape (s .transfer .one) (s .registers .count) p r c d q atn ack w → Fine (dataReadBy d (being p r c d q atn ack w s))
   unfolding dbr
   data-read Unfixed u g = so _ n u g
   data-read In {q = q} u g = by-case Fine _ (λ e. settles u (not-true (isEmpty q) e) g) (λ e. so _ n u g)
@@ -70,21 +70,32 @@ module _ (s : State) (n : Numbered s) where
 
   -- a byte more, going out
   more : (b : ℕ) {p : Pending} {r : Running} {c : Connection} {q : Fifo} {atn ack : Bool} {w : Noted}
-      → Shape p r c Out q atn ack w → Shape p r c Out (push b q) atn ack w
+      → push b q .held ≤ pick (s .transfer .one) 1 (s .registers .count)
+      → Shape (s .transfer .one) (s .registers .count) p r c Out q atn ack w
+      → Shape (s .transfer .one) (s .registers .count) p r c Out (push b q) atn ack w
   unfolding both
-  more b (idle e o h l) = absurd (true≢false o)
-  more b (selects k o h) = absurd (true≢false o)
-  more b (waits k h) = waits k out
-  more b (transfers k h) = transfers k outgoing
-  more b (informs h e) = informs outgoing e
-  more b (ending k h l) = absurd (false≢true h)
-  more b (readOut k h) = absurd (false≢true h)
+  more b v (idle e o h l) = absurd (true≢false o)
+  more b v (selects k o h) = absurd (true≢false o)
+  more b v (waits k h) = waits k (out v)
+  more b v (transfers k h) = transfers k (outgoing v)
+  more b v (informs h e) = informs (outgoing v) e
+  more b v (ending k h l) = absurd (false≢true h)
+  more b v (readOut k h) = absurd (false≢true h)
+
+  room : (b : ℕ) (q : Fifo) → both (ltb (F.waits q) (pick (s .transfer .one) 1 (s .registers .count))) (hasRoom q) ≡ true
+      → push b q .held ≤ pick (s .transfer .one) 1 (s .registers .count)
+  unfolding push F.waits
+  room b q e =
+      let m = pick (s .transfer .one) 1 (s .registers .count) in
+      let h : q .held < m = ltb-true (q .held) m (both-first _ (hasRoom q) e) in
+      by-pick (λ (x : Fifo). x .held ≤ m) _ (omega arith) (omega arith)
 
   data-written : (d : Direction) (b : ℕ) {p : Pending} {r : Running} {c : Connection} {q : Fifo} {atn ack : Bool} {w : Noted}
-      → Whole q → Shape p r c d q atn ack w → Fine (dataWrittenBy d b (being p r c d q atn ack w s))
+      → Whole q → Shape (s .transfer .one) (s .registers .count) p r c d q atn ack w → Fine (dataWrittenBy d b (being p r c d q atn ack w s))
+  unfolding dbr left
   data-written Unfixed b u g = so _ n u g
   data-written In b u g = so _ n u g
-  data-written Out b {q = q} u g = by-pick Fine _ (so _ n (push-whole q u b) (more b g)) (so _ n u g)
+  data-written Out b {q = q} u g = by-case Fine _ (λ e. so _ n (push-whole q u b) (more b (room b q e) g)) (λ e. so _ n u g)
 
 pub data-read-kept : (s : State) → Good s → Fine (dataRead s)
 unfolding dataRead
@@ -121,9 +132,21 @@ block-written-kept (b ∷ l) s g =
 
 -- ---- the other registers
 
-pub stored-kept : (a b : ℕ) (s : State) → b < 256 → Good s → Good (stored a b s)
+-- where nothing is under way the count may be anything
+recount : {one : Bool} {n m : ℕ} {p : Pending} {r : Running} {c : Connection} {d : Direction} {q : Fifo} {atn ack : Bool} {w : Noted}
+    → Shape one n p r c d q atn ack w → either (isRunning r) (isEnding p) ≡ false → Shape one m p r c d q atn ack w
+recount (idle e o h l) b = idle e o h l
+recount (selects k o h) b = selects k o h
+recount (waits k h) b = clash (transfers-run k) (either-first _ _ b)
+recount (transfers k h) b = clash (transfers-run k) (either-first _ _ b)
+recount (informs h e) b = absurd (true≢false (either-first _ _ b))
+recount (ending k h l) b = ending k h l
+recount (readOut k h) b = readOut k h
+
+pub stored-kept : (a b : ℕ) (s : State) → b < 256 → either (isRunning (s .transfer .running)) (isEnding (s .status .pending)) ≡ false
+    → Good s → Good (stored a b s)
 unfolding stored highWritten middleWritten lowWritten
-stored-kept a b s small g =
+stored-kept a b s small calm g =
     let n = g .numbers in
     let c = n .count-below in
     by-pick Good _ (so _ n (g .whole) (g .shape))
@@ -135,11 +158,11 @@ stored-kept a b s small g =
     (by-pick Good _ (so _ n (g .whole) (g .shape))
     (by-pick Good _ (so _ n (g .whole) (g .shape))
     (by-pick Good _
-    (so _ (record { cdb-long = n .cdb-long; count-below = omega arith; identity-below = n .identity-below }) (g .whole) (g .shape))
+    (so _ (record { cdb-long = n .cdb-long; count-below = omega arith; identity-below = n .identity-below }) (g .whole) (recount (g .shape) calm))
     (by-pick Good _
-    (so _ (record { cdb-long = n .cdb-long; count-below = omega arith; identity-below = n .identity-below }) (g .whole) (g .shape))
+    (so _ (record { cdb-long = n .cdb-long; count-below = omega arith; identity-below = n .identity-below }) (g .whole) (recount (g .shape) calm))
     (by-pick Good _
-    (so _ (record { cdb-long = n .cdb-long; count-below = omega arith; identity-below = n .identity-below }) (g .whole) (g .shape))
+    (so _ (record { cdb-long = n .cdb-long; count-below = omega arith; identity-below = n .identity-below }) (g .whole) (recount (g .shape) calm))
     (by-pick Good _ (so _ n (g .whole) (g .shape)) (so _ n (g .whole) (g .shape))))))))))))
 
 quieter : (p : Pending) → isEnding p ≡ false → isEnding (withoutInterrupt p) ≡ false
@@ -148,8 +171,8 @@ quieter Interrupt e = e
 quieter (Ending c) e = e
 quieter ReadOut e = e
 
-read-shape : {p : Pending} {r : Running} {c : Connection} {d : Direction} {q : Fifo} {atn ack : Bool} {w : Noted}
-    → Shape p r c d q atn ack w → Shape (withoutInterrupt p) r c d q atn ack w
+read-shape : {one : Bool} {n : ℕ} {p : Pending} {r : Running} {c : Connection} {d : Direction} {q : Fifo} {atn ack : Bool} {w : Noted}
+    → Shape one n p r c d q atn ack w → Shape one n (withoutInterrupt p) r c d q atn ack w
 read-shape {p = p} (idle e o h l) = idle (quieter p e) o h l
 read-shape (selects k o h) = selects k o h
 read-shape (waits k h) = waits k h

@@ -3,3 +3,7 @@ pub mod Shapes
 pub mod Requests
 pub mod Events
 pub mod Host
+pub mod Commands
+pub mod Laws
+pub mod Facts
+pub mod Wrong

@@ -7,25 +7,22 @@ use native.Mathlib.Omega.{arith}
 use lib.Dec.{eqb}
 use borrow.Author.Tests.{eqb-true}
 use Rattle.chip.specs.Choice.{pick}
-use Rattle.chip.specs.State.{setAck, setReported, setPe, setDirection, setPhase}
 use Rattle.chip.specs.Phases.{phaseNumber, comesIn, isNoted}
 use Rattle.chip.specs.Fifo.{isEmpty, pop, push}
 use Rattle.chip.specs.Count.{lowered}
-use Rattle.chip.specs.Interrupts.{isRunning, outgoingDropped, withoutOutgoing, closed, unlessInterrupt}
+use Rattle.chip.specs.Interrupts.{outgoingDropped, withoutOutgoing, closed}
 use Rattle.chip.specs.TransferInfo.{halted, unlessHalted, parityNoted, takenIn, infoOut, infoTaken, infoIn, infoOver, infoRequest}
 use Rattle.chip.specs.SelectAndTransfer.{unexpected, sendIdentify, sendCommand, sendData, takeData, dataOut, dataIn, unlessNoneLeft, takeStatus, takeSave, takeDisconnect, takeMessage, bodyRequest, lateRequest, takeIdentify, completed, takeComplete, requestAt, transferRequest}
 use Rattle.chip.specs.Commands.{wayOf}
-use Rattle.chip.specs.Events.{idleRequest, servedBy, requestedConnected, requestedBy, rememberedBy, remembered, requested}
+use Rattle.chip.specs.Events.{idleRequest, requestedConnected, requestedBy, rememberedBy, remembered, requested}
 use Rattle.chip.specs.declared.State.{State}
 use Rattle.chip.specs.declared.Reply.{Reply}
 use Rattle.chip.specs.declared.Fifo.{Fifo}
-use Rattle.chip.specs.declared.Identity.{Identity}
 use Rattle.chip.specs.declared.Answer.{Answer}
 use Rattle.chip.specs.declared.Answer.the-variants.{Done, Held, OutOfPlace, BadNumber, Blind, CommandIgnored, ReselectionIgnored, NoDataNow, Reported}
 use Rattle.chip.specs.declared.Pending.{Pending}
 use Rattle.chip.specs.declared.Pending.the-variants.{Nothing}
 use Rattle.chip.specs.declared.Running.{Running}
-use Rattle.chip.specs.declared.Running.the-variants.{TransferInfo}
 use Rattle.chip.specs.declared.Connection.{Connection}
 use Rattle.chip.specs.declared.Connection.the-variants.{Connected}
 use Rattle.chip.specs.declared.Direction.{Direction}
@@ -36,10 +33,10 @@ use Rattle.chip.specs.declared.Noted.{Noted}
 use Rattle.chip.specs.declared.Noted.the-variants.{NoPhase, Was}
 use Rattle.chip.specs.declared.Stage.{Stage}
 use Rattle.chip.specs.declared.Stage.the-variants.{SendIdentify, SendCommand, Body, AfterData, Disconnecting, Reselected, AfterStatus, Elsewhere}
-use Rattle.refusals.proofs.Cases.{by-pick, by-case, both-first, both-second}
-use Rattle.reached.specs.Sound.{Placed, apart, joined, Way, unfixed, incoming, outgoing, none, Shape, idle, selects, waits, transfers, informs, ending, readOut, Transfers, with-atn, without-atn}
+use Rattle.refusals.proofs.Cases.{by-pick, by-case, both-first}
+use Rattle.reached.specs.Sound.{apart, joined, Way, unfixed, incoming, outgoing, none, Shape, idle, selects, waits, transfers, informs, ending, readOut, Transfers, with-atn, without-atn, Moves, transfer, info}
 use Rattle.reached.proofs.Fifos.{Whole, dropped-whole, pop-whole, push-whole}
-use Rattle.reached.proofs.Shapes.{Numbers, Numbered, Good, so, Fine, being, in-way, pop-way, empty-way, raised, ended, unless-int, transfers-run}
+use Rattle.reached.proofs.Shapes.{Numbered, Good, so, Fine, being, in-way, no-more, lowered-way, raised, ended, unless-int}
 
 -- ---- the count falls by one, or stands
 
@@ -74,13 +71,13 @@ way-in (Was x) p e c =
 -- ---- connected, a command runs, nothing is pending
 
 module _ (s : State) (r : Running) (d : Direction) (q : Fifo) (atn ack : Bool) (w : Noted)
-    (n : Numbered s) (u : Whole q) (run : isRunning r ≡ true) (way : Way d q)
-    (on : (x : Fifo) (i j : Bool) → Way d x → Shape Nothing r Connected d x i j w) where
+    (n : Numbered s) (u : Whole q) (run : Moves r) (way : Way (s .transfer .one) (s .registers .count) d q)
+    (on : (o : Bool) (m : ℕ) (x : Fifo) (i j : Bool) → Way o m d x → Shape o m Nothing r Connected d x i j w) where
   abbrev now : State
   now = being Nothing r Connected d q atn ack w s
 
   same : Good now
-  same = (so _ n u (on q atn ack way))
+  same = so _ n u (on _ _ q atn ack way)
 
   halts : Fine (halted now)
   unfolding halted
@@ -99,7 +96,7 @@ module _ (s : State) (r : Running) (d : Direction) (q : Fifo) (atn ack : Bool) (
   info-taken p b bad e =
       by-pick Fine _
       (unless-int _ _ same (ended 0x20 _ (taken b bad) (push-whole q u b) joined run (in-way e)))
-      (so _ (taken b bad) (push-whole q u b) (on (push b q) atn ack (in-way e)))
+      (so _ (taken b bad) (push-whole q u b) (on _ _ (push b q) atn ack (in-way e)))
 
   info-in : (p : Phase) (b : ℕ) (bad : Bool) → d ≡ In → Fine (infoIn p b bad now)
   unfolding infoIn
@@ -107,7 +104,7 @@ module _ (s : State) (r : Running) (d : Direction) (q : Fifo) (atn ack : Bool) (
 
   info-out : (p : Phase) → Fine (infoOut p now)
   unfolding infoOut lowered
-  info-out p = by-pick Fine _ same (so _ (fewer s n) (pop-whole q u) (on (pop q) _ ack (pop-way way)))
+  info-out p = by-pick Fine _ same (so _ (fewer s n) (pop-whole q u) (on _ _ (pop q) _ ack (lowered-way way)))
 
   info-over : (p : Phase) → Fine (infoOver p now)
   unfolding infoOver
@@ -130,17 +127,17 @@ module _ (s : State) (r : Running) (d : Direction) (q : Fifo) (atn ack : Bool) (
   module _ (tr : Transfers r) where
     send-data : Fine (sendData now)
     unfolding sendData lowered
-    send-data = by-pick Fine _ same (so _ (fewer s n) (pop-whole q u) (on (pop q) atn ack (pop-way way)))
+    send-data = by-pick Fine _ same (so _ (fewer s n) (pop-whole q u) (on _ _ (pop q) atn ack (lowered-way way)))
 
     take-data : (b : ℕ) (bad : Bool) → Fine (takeData b bad now)
     unfolding takeData takenIn parityNoted lowered
     take-data b bad = by-pick Fine _ (unless-halted bad _ (so _ (taken b bad) (push-whole q u b) (transfers tr incoming))) same
 
-    data-out : (x : Direction) → Fine (dataOut x now)
+    data-out : (x : Direction) → Way (s .transfer .one) (s .registers .count) x q → Fine (dataOut x now)
     unfolding dataOut
-    data-out Unfixed = (so _ n u (transfers tr outgoing))
-    data-out In = unexpected-kept DataOut
-    data-out Out = send-data
+    data-out Unfixed (unfixed e) = so _ n u (transfers tr (outgoing (no-more q _ e)))
+    data-out In v = unexpected-kept DataOut
+    data-out Out v = send-data
 
     data-in : (x : Direction) (b : ℕ) (bad : Bool) → Fine (dataIn x b bad now)
     unfolding dataIn
@@ -148,7 +145,7 @@ module _ (s : State) (r : Running) (d : Direction) (q : Fifo) (atn ack : Bool) (
     data-in In b bad = take-data b bad
     data-in Out b bad = unexpected-kept DataIn
 
-    dropped-way : (x : Direction) → Way x q → Way (closed x) (withoutOutgoing x q)
+    dropped-way : (x : Direction) → Way (s .transfer .one) (s .registers .count) x q → Way (s .transfer .one) (s .registers .count) (closed x) (withoutOutgoing x q)
     unfolding isEmpty
     dropped-way Unfixed h = h
     dropped-way In h = h
@@ -162,11 +159,11 @@ module _ (s : State) (r : Running) (d : Direction) (q : Fifo) (atn ack : Bool) (
     unfolding takeMessage takeSave takeDisconnect parityNoted
     take-message b bad =
         by-pick Fine _ (unless-halted bad _ (unless-int _ _ same (ended 0x21 _ n u joined run way)))
-        (by-pick Fine _ (unless-halted bad _ (so _ n u (on q atn ack way))) (unexpected-kept MessageIn))
+        (by-pick Fine _ (unless-halted bad _ (so _ n u (on _ _ q atn ack way))) (unexpected-kept MessageIn))
 
     body : (p : Phase) (b : ℕ) (bad : Bool) → Fine (bodyRequest p b bad now)
     unfolding bodyRequest unlessNoneLeft
-    body DataOut b bad = by-pick Fine _ (unexpected-kept DataOut) (data-out d)
+    body DataOut b bad = by-pick Fine _ (unexpected-kept DataOut) (data-out d way)
     body DataIn b bad = by-pick Fine _ (unexpected-kept DataIn) (data-in d b bad)
     body CommandOut b bad = unexpected-kept CommandOut
     body StatusIn b bad = take-status b bad
@@ -188,12 +185,12 @@ module _ (s : State) (r : Running) (d : Direction) (q : Fifo) (atn ack : Bool) (
 
     by-stage : (g : Stage) (p : Phase) (b : ℕ) (bad : Bool) → Fine (requestAt g p b bad now)
     unfolding requestAt sendIdentify sendCommand takeIdentify takeComplete completed parityNoted
-    by-stage SendIdentify p b bad = by-pick Fine _ (so _ n u (on q false ack way)) (unexpected-kept p)
-    by-stage (SendCommand x) p b bad = by-pick Fine _ (so _ n u (on q atn ack way)) (unexpected-kept p)
+    by-stage SendIdentify p b bad = by-pick Fine _ (so _ n u (on _ _ q false ack way)) (unexpected-kept p)
+    by-stage (SendCommand x) p b bad = by-pick Fine _ (so _ n u (on _ _ q atn ack way)) (unexpected-kept p)
     by-stage Body p b bad = body p b bad
     by-stage AfterData p b bad = late p b bad
     by-stage Disconnecting p b bad = unexpected-kept p
-    by-stage Reselected p b bad = by-pick Fine _ (unless-halted bad _ (so _ n u (on q atn ack way))) (unexpected-kept p)
+    by-stage Reselected p b bad = by-pick Fine _ (unless-halted bad _ (so _ n u (on _ _ q atn ack way))) (unexpected-kept p)
     by-stage AfterStatus p b bad =
         by-pick Fine _ (unless-halted bad _ (unless-int _ _ same (ended 0x16 _ n u joined run way))) (unexpected-kept p)
     by-stage Elsewhere p b bad = unexpected-kept p
@@ -217,30 +214,30 @@ remembers Reported p x g = so _ (g .numbers) (g .whole) (g .shape)
 
 module _ (s : State) (n : Numbered s) (y : Phase) (b : ℕ) (bad : Bool) where
   by-shape : {p : Pending} {r : Running} {c : Connection} {d : Direction} {q : Fifo} {atn ack : Bool} {w : Noted}
-      → Whole q → Shape p r c d q atn ack w → Fine (requestedBy c y b bad (being p r c d q atn ack w s))
+      → Whole q → Shape (s .transfer .one) (s .registers .count) p r c d q atn ack w → Fine (requestedBy c y b bad (being p r c d q atn ack w s))
   unfolding requestedConnected idleRequest
-  by-shape u (idle e o h apart) = (so _ n u (idle e o h apart))
+  by-shape u (idle e o h apart) = so _ n u (idle e o h apart)
   by-shape u (idle e o h joined) =
       by-pick Fine _ (so _ n u (idle e o h joined))
       (by-pick Fine _ (so _ n u (idle e o h joined))
       (by-pick Fine _ (so _ n u (idle e o h joined)) (unless-int _ _ (so _ n u (idle e o h joined)) (raised _ _ n u joined (none h)))))
-  by-shape u (selects t o h) = (so _ n u (selects t o h))
-  by-shape u (waits t h) = (so _ n u (waits t h))
+  by-shape u (selects t o h) = so _ n u (selects t o h)
+  by-shape u (waits t h) = so _ n u (waits t h)
   by-shape u (transfers with-atn h) =
       by-pick Fine _ (so _ n u (transfers with-atn h))
       (by-pick Fine _ (so _ n u (transfers with-atn h))
-      (transfer-request s _ _ _ _ _ _ n u refl h (λ x i j. transfers with-atn) with-atn true y b bad))
+      (transfer-request s _ _ _ _ _ _ n u (transfer with-atn) h (λ o m x i j. transfers with-atn) with-atn true y b bad))
   by-shape u (transfers without-atn h) =
       by-pick Fine _ (so _ n u (transfers without-atn h))
       (by-pick Fine _ (so _ n u (transfers without-atn h))
-      (transfer-request s _ _ _ _ _ _ n u refl h (λ x i j. transfers without-atn) without-atn false y b bad))
+      (transfer-request s _ _ _ _ _ _ n u (transfer without-atn) h (λ o m x i j. transfers without-atn) without-atn false y b bad))
   by-shape u (informs h e) =
       by-pick Fine _ (so _ n u (informs h e))
       (by-pick Fine _ (so _ n u (informs h e))
-      (info-request s _ _ _ _ _ _ n u refl h (λ x i j v. informs v e) y b bad e))
-  by-shape u (ending t h apart) = (so _ n u (ending t h apart))
-  by-shape u (ending t h joined) = by-case Fine _ (λ e. (so _ n u (ending t h joined))) (λ e. absurd (true≢false e))
-  by-shape u (readOut t h) = (so _ n u (readOut t h))
+      (info-request s _ _ _ _ _ _ n u info h (λ o m x i j v. informs v e) y b bad e))
+  by-shape u (ending t h apart) = so _ n u (ending t h apart)
+  by-shape u (ending t h joined) = by-case Fine _ (λ e. so _ n u (ending t h joined)) (λ e. absurd (true≢false e))
+  by-shape u (readOut t h) = so _ n u (readOut t h)
 
 pub request-kept : (p : Phase) (b : ℕ) (bad : Bool) (s : State) → Good s → Fine (requested p b bad s)
 unfolding requested remembered

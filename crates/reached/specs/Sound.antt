@@ -1,22 +1,23 @@
 -- What holds of every state reached from the fresh one by calls. Paper: "Interrupts and endings", "Bus events", "Commands".
 --   Sound       the facts of a state: the image's form can hold it, and it has one of seven shapes
 --   Kept        a step's law: every call keeps them
---   Shape       what is pending, the running command, connection, way, FIFO, ATN, held ACK and reported phase, together
+--   Shape       the count, what is pending, the running command, connection, way, FIFO, ATN, held ACK and reported phase, together
 --   Placed      a connection in which no selection and no wait goes on: ATN and held ACK only when connected
 --   Transfers   a Select-And-Transfer
+--   Moves       one of 08, 09 and 20h, the commands that move bytes
 --   Selects     one of 06 to 09
---   Way         where no way is fixed, no byte waits
---   Drained     no incoming byte waits: none at all, or an outgoing FIFO
+--   Way         where no way is fixed, no byte waits; going out, no more wait than are left
+--   Drained     no incoming byte waits: none at all, or an outgoing FIFO that holds no more than are left
 --   isOutgoing  the way is out
 --   isUnread    incoming bytes wait
 -- The image's form enforces `ok`, and of the shapes only that no state has INT and an ending: one byte says which is pending. An
 -- image of any other combination is valid, and this room says that no list of calls comes to one that is not among the shapes.
 use mathlib.Core.Path.{_≡_}
 use mathlib.Core.Bool.{Bool, true, false, not}
-use Prim.Native.Nat.{ℕ}
-use Rattle.chip.specs.Choice.{both}
+use Prim.Native.Nat.{ℕ, _≤_}
+use Rattle.chip.specs.Choice.{pick, both}
 use Rattle.chip.specs.Fifo.{isEmpty}
-use Rattle.chip.specs.Interrupts.{isEnding, isRunning, isIncoming}
+use Rattle.chip.specs.Interrupts.{isEnding, isIncoming}
 use Rattle.chip.specs.Commands.{wayOf}
 use Rattle.chip.specs.Calls.{Call, Outcome}
 use Rattle.chip.specs.declared.State.{State}
@@ -48,49 +49,54 @@ pub data Transfers : Running → Type 0 where
   with-atn : Transfers TransferWithAtn
   without-atn : Transfers TransferWithoutAtn
 
+pub data Moves : Running → Type 0 where
+  transfer : {r : Running} → Transfers r → Moves r
+  info : Moves TransferInfo
+
 pub data Selects : Running → Type 0 where
   six : Selects SelectWithAtn
   seven : Selects SelectWithoutAtn
   eight : Selects TransferWithAtn
   nine : Selects TransferWithoutAtn
 
-pub data Way : Direction → Fifo → Type 0 where
-  unfixed : {q : Fifo} → isEmpty q ≡ true → Way Unfixed q
-  incoming : {q : Fifo} → Way In q
-  outgoing : {q : Fifo} → Way Out q
+-- one says that the count n stands for a single byte, as `left` reads them
+pub data Way (one : Bool) (n : ℕ) : Direction → Fifo → Type 0 where
+  unfixed : {q : Fifo} → isEmpty q ≡ true → Way one n Unfixed q
+  incoming : {q : Fifo} → Way one n In q
+  outgoing : {q : Fifo} → q .held ≤ pick one 1 n → Way one n Out q
 
-pub data Drained : Direction → Fifo → Type 0 where
-  none : {d : Direction} {q : Fifo} → isEmpty q ≡ true → Drained d q
-  out : {q : Fifo} → Drained Out q
+pub data Drained (one : Bool) (n : ℕ) : Direction → Fifo → Type 0 where
+  none : {d : Direction} {q : Fifo} → isEmpty q ≡ true → Drained one n d q
+  out : {q : Fifo} → q .held ≤ pick one 1 n → Drained one n Out q
 
-pub data Shape : Pending → Running → Connection → Direction → Fifo → Bool → Bool → Noted → Type 0 where
+pub data Shape (one : Bool) (n : ℕ) : Pending → Running → Connection → Direction → Fifo → Bool → Bool → Noted → Type 0 where
   -- no command runs: no ending, INT or not, the way not out, no byte waits, and it is Disconnected or connected
   idle : {p : Pending} {c : Connection} {d : Direction} {q : Fifo} {atn ack : Bool} {w : Noted}
-      → isEnding p ≡ false → isOutgoing d ≡ false → isEmpty q ≡ true → Placed c atn ack → Shape p Idle c d q atn ack w
+      → isEnding p ≡ false → isOutgoing d ≡ false → isEmpty q ≡ true → Placed c atn ack → Shape one n p Idle c d q atn ack w
   -- selecting: one of 06 to 09 runs, no INT, the way not out, no byte waits
   selects : {r : Running} {d : Direction} {q : Fifo} {w : Noted}
-      → Selects r → isOutgoing d ≡ false → isEmpty q ≡ true → Shape Nothing r Selecting d q false false w
+      → Selects r → isOutgoing d ≡ false → isEmpty q ≡ true → Shape one n Nothing r Selecting d q false false w
   -- waiting for reselection: a Select-And-Transfer runs, no INT, every incoming byte was read
   waits : {r : Running} {d : Direction} {q : Fifo} {w : Noted}
-      → Transfers r → Drained d q → Shape Nothing r Waiting d q false false w
+      → Transfers r → Drained one n d q → Shape one n Nothing r Waiting d q false false w
   -- connected, a Select-And-Transfer runs, no INT
   transfers : {r : Running} {d : Direction} {q : Fifo} {atn ack : Bool} {w : Noted}
-      → Transfers r → Way d q → Shape Nothing r Connected d q atn ack w
+      → Transfers r → Way one n d q → Shape one n Nothing r Connected d q atn ack w
   -- connected, Transfer Info runs, no INT; the way is that of the reported phase
   informs : {d : Direction} {q : Fifo} {atn ack : Bool} {w : Noted}
-      → Way d q → d ≡ wayOf w → Shape Nothing TransferInfo Connected d q atn ack w
-  -- an ending: a command runs, incoming bytes wait, and it is Disconnected or connected
+      → Way one n d q → d ≡ wayOf w → Shape one n Nothing TransferInfo Connected d q atn ack w
+  -- an ending: a command that moves bytes runs, incoming bytes wait, and it is Disconnected or connected
   ending : {code : ℕ} {r : Running} {c : Connection} {d : Direction} {q : Fifo} {atn ack : Bool} {w : Noted}
-      → isRunning r ≡ true → isUnread d q ≡ true → Placed c atn ack → Shape (Ending code) r c d q atn ack w
+      → Moves r → isUnread d q ≡ true → Placed c atn ack → Shape one n (Ending code) r c d q atn ack w
   -- the read-out after a Free at 42h: a Select-And-Transfer runs, incoming bytes wait, Disconnected
   readOut : {r : Running} {d : Direction} {q : Fifo} {w : Noted}
-      → Transfers r → isUnread d q ≡ true → Shape ReadOut r Disconnected d q false false w
+      → Transfers r → isUnread d q ≡ true → Shape one n ReadOut r Disconnected d q false false w
 
 -- the shape of a state
 abbrev pub Shaped : State → Type 0
 Shaped s =
-    Shape (s .status .pending) (s .transfer .running) (s .wire .connection) (s .transfer .direction) (s .fifo) (s .wire .atn)
-    (s .wire .ack) (s .wire .reported)
+    Shape (s .transfer .one) (s .registers .count) (s .status .pending) (s .transfer .running) (s .wire .connection)
+    (s .transfer .direction) (s .fifo) (s .wire .atn) (s .wire .ack) (s .wire .reported)
 
 pub record Sound (s : State) : Type 0 where
   -- lengths, the count below 2^24, the identity below 8, at most 12 bytes wait, the other places of the FIFO are 0

@@ -1,0 +1,266 @@
+-- Every command keeps the facts.
+--   commanded-kept   of every command, from every shape
+--   Rest             no command runs and nothing is pending
+--   refused          where two tests do not both hold and the second does, the first does not
+--   as-info          a code that has no line of its own in `carriedOut` is valid only as Transfer Info is
+use mathlib.Core.Path.{_≡_, refl, sym, _∙_}
+use mathlib.Core.Bool.{Bool, true, false, not, true≢false, false≢true}
+use mathlib.Core.List.{List, [], _∷_}
+use Prim.Native.Nat.{ℕ, zero, suc, _<_}
+use native.Mathlib.Omega.{arith}
+use lib.Dec.{eqb}
+use lib.ListN.{getD}
+use borrow.Author.Tests.{eqb-true, not-true}
+use Rattle.chip.specs.Choice.{pick, both, either}
+use Rattle.chip.specs.Lines.{codeOf, ownIdentity}
+use Rattle.chip.specs.Fifo.{isEmpty}
+use Rattle.chip.specs.Count.{loaded, loadedInfo}
+use Rattle.chip.specs.Interrupts.{isEnding, isInterrupt, isRunning, busy, interrupt}
+use Rattle.chip.specs.SelectAndTransfer.{fromDisconnected, resumed}
+use Rattle.chip.specs.Commands.{leftOut, table, entryOf, isTwo, isConnected, isDisconnected, isPlace, isReady, isValid, reset, aborted, disconnected, selecting, transferring, wayOf, informing, carriedOut, accepted, isRefusedBusy, commanded}
+use Rattle.chip.specs.declared.State.{State}
+use Rattle.chip.specs.declared.Entry.{Entry}
+use Rattle.chip.specs.declared.Place.{Place}
+use Rattle.chip.specs.declared.Place.the-variants.{Nowhere, Anywhere, WhenDisconnected, WhenConnected, WhenConnectedOrWaiting, WhenConnectedOrDisconnected}
+use Rattle.chip.specs.declared.Fifo.{Fifo}
+use Rattle.chip.specs.declared.Pending.{Pending}
+use Rattle.chip.specs.declared.Pending.the-variants.{Nothing, Interrupt, Ending, ReadOut}
+use Rattle.chip.specs.declared.Running.{Running}
+use Rattle.chip.specs.declared.Running.the-variants.{Idle, SelectWithAtn, SelectWithoutAtn, TransferWithAtn, TransferWithoutAtn}
+use Rattle.chip.specs.declared.Connection.{Connection}
+use Rattle.chip.specs.declared.Direction.{Direction}
+use Rattle.chip.specs.declared.Noted.{Noted}
+use Rattle.refusals.proofs.Cases.{by-pick, by-case, both-first, both-second, either-first, either-second, either-last}
+use Rattle.reached.specs.Sound.{isOutgoing, Placed, apart, joined, unfixed, none, Shape, idle, selects, waits, transfers, informs, ending, readOut, Transfers, with-atn, without-atn, transfer, info, Selects, six, seven}
+use Rattle.reached.proofs.Fifos.{Whole, none-whole}
+use Rattle.reached.proofs.Shapes.{Numbered, Good, so, Fine, being, clash, empty-way, raised, ended, transfers-run, moves-run, selects-run, transfers-selects}
+
+-- ---- the table
+
+-- each entry passes at its place
+unfoldable all-at : List Entry → (ℕ → Entry → Bool) → Bool
+all-at [] passes = true
+all-at (x ∷ l) passes = both (passes 0 x) (all-at l (λ i. passes (suc i)))
+
+at-place : (l : List Entry) (passes : ℕ → Entry → Bool) → ((i : ℕ) → passes i leftOut ≡ true) → all-at l passes ≡ true → (i : ℕ)
+    → passes i (getD l i leftOut) ≡ true
+unfolding all-at
+at-place [] passes z h i = z i
+at-place (x ∷ l) passes z h zero = both-first _ _ h
+at-place (x ∷ l) passes z h (suc i) = at-place l (λ i. passes (suc i)) (λ i. z (suc i)) (both-second (passes 0 x) _ h) i
+
+-- Reset, and the codes that have a line of their own in `carriedOut`
+unfoldable isListed : ℕ → Bool
+isListed c =
+    either (eqb c 0x00)
+    (either (eqb c 0x01)
+    (either (eqb c 0x02)
+    (either (eqb c 0x03)
+    (either (eqb c 0x04)
+    (either (eqb c 0x06) (either (eqb c 0x07) (either (eqb c 0x08) (either (eqb c 0x09) (eqb c 0x0F)))))))))
+
+-- valid nowhere, or when connected
+abbrev isNarrow : Place → Bool
+isNarrow Nowhere = true
+isNarrow Anywhere = false
+isNarrow WhenDisconnected = false
+isNarrow WhenConnected = true
+isNarrow WhenConnectedOrWaiting = false
+isNarrow WhenConnectedOrDisconnected = false
+
+abbrev isLikeInfo : Entry → Bool
+isLikeInfo x = both (isTwo (x .level)) (isNarrow (x .place))
+
+as-info : (c : ℕ) → isListed c ≡ false → isLikeInfo (entryOf c) ≡ true
+unfolding entryOf table isListed all-at both either
+as-info c e = either-second _ _ (at-place table (λ i x. either (isListed i) (isLikeInfo x)) (λ i. either-last (isListed i)) refl c) e
+
+narrow : (p : Place) (c : Connection) → isNarrow p ≡ true → isPlace p c ≡ true → isConnected c ≡ true
+narrow Nowhere c e h = absurd (false≢true h)
+narrow Anywhere c e h = absurd (false≢true e)
+narrow WhenDisconnected c e h = absurd (false≢true e)
+narrow WhenConnected c e h = h
+narrow WhenConnectedOrWaiting c e h = absurd (false≢true e)
+narrow WhenConnectedOrDisconnected c e h = absurd (false≢true e)
+
+-- ---- no command runs and nothing is pending
+
+data Rest : Pending → Running → Connection → Direction → Fifo → Bool → Bool → Type 0 where
+  rest : {c : Connection} {d : Direction} {q : Fifo} {atn ack : Bool} → isOutgoing d ≡ false → isEmpty q ≡ true → Placed c atn ack
+      → Rest Nothing Idle c d q atn ack
+
+nothing : (p : Pending) → isEnding p ≡ false → isInterrupt p ≡ false → p ≡ Nothing
+nothing Nothing e i = refl
+nothing Interrupt e i = absurd (true≢false i)
+nothing (Ending c) e i = absurd (true≢false e)
+nothing ReadOut e i = absurd (true≢false e)
+
+resting : {one : Bool} {n : ℕ} {p : Pending} {r : Running} {c : Connection} {d : Direction} {q : Fifo} {atn ack : Bool} {w : Noted}
+    → Shape one n p r c d q atn ack w → isInterrupt p ≡ false → either (isRunning r) (isEnding p) ≡ false → Rest p r c d q atn ack
+resting {p = p} (idle e o h l) i b = rw (nothing p e i) (rest o h l)
+resting (selects k o h) i b = clash (selects-run k) (either-first _ _ b)
+resting (waits k h) i b = clash (transfers-run k) (either-first _ _ b)
+resting (transfers k h) i b = clash (transfers-run k) (either-first _ _ b)
+resting (informs h e) i b = absurd (true≢false (either-first _ _ b))
+resting (ending k h l) i b = clash (moves-run k) (either-first _ _ b)
+resting (readOut k h) i b = clash (transfers-run k) (either-first _ _ b)
+
+-- ATN and held ACK may be anything when connected
+lines : {one : Bool} {n : ℕ} {p : Pending} {r : Running} {c : Connection} {d : Direction} {q : Fifo} {atn ack : Bool} {w : Noted} (x y : Bool)
+    → Shape one n p r c d q atn ack w → isConnected c ≡ true → Shape one n p r c d q x y w
+lines x y (idle e o h apart) f = absurd (false≢true f)
+lines x y (idle e o h joined) f = idle e o h joined
+lines x y (selects k o h) f = absurd (false≢true f)
+lines x y (waits k h) f = absurd (false≢true f)
+lines x y (transfers k h) f = transfers k h
+lines x y (informs h e) f = informs h e
+lines x y (ending k h apart) f = absurd (false≢true f)
+lines x y (ending k h joined) f = ending k h joined
+lines x y (readOut k h) f = absurd (false≢true f)
+
+module _ (s : State) (n : Numbered s) where
+  abort : {p : Pending} {r : Running} {c : Connection} {d : Direction} {q : Fifo} {atn ack : Bool} {w : Noted}
+      → Whole q → Shape (s .transfer .one) (s .registers .count) p r c d q atn ack w → isEnding p ≡ false → either (isRunning r) (isEnding p) ≡ true
+      → Good (aborted (being p r c d q atn ack w s))
+  unfolding aborted either
+  abort u (idle e o h l) f b = clash b e
+  abort u (selects k o h) f b = by-case Good _ (λ e. absurd (false≢true e)) (λ e. raised 0x22 _ n u apart (none h))
+  abort u (waits k h) f b = by-case Good _ (λ e. absurd (false≢true e)) (λ e. raised 0x22 _ n u apart h)
+  abort u (transfers k h) f b =
+      by-case Good _ (λ e. ended _ _ n u joined (transfer k) h) (λ e. absurd (true≢false e))
+  abort u (informs h x) f b = by-case Good _ (λ e. ended _ _ n u joined info h) (λ e. absurd (true≢false e))
+  abort u (ending k h l) f b = absurd (true≢false f)
+  abort u (readOut k h) f b = absurd (true≢false f)
+
+  select : (x : Running) → Selects x
+      → {p : Pending} {r : Running} {c : Connection} {d : Direction} {q : Fifo} {atn ack : Bool} (w : Noted)
+      → Whole q → Rest p r c d q atn ack → isDisconnected c ≡ true → Good (selecting x (being p r c d q atn ack w s))
+  unfolding selecting
+  select x k w u (rest o h apart) e = so _ n u (selects k o h)
+  select x k w u (rest o h joined) e = absurd (false≢true e)
+
+  begin : (x : Running) → Transfers x
+      → {p : Pending} {r : Running} {c : Connection} {d : Direction} {q : Fifo} {atn ack : Bool} (w : Noted)
+      → Whole q → Rest p r c d q atn ack → Good (transferring x (being p r c d q atn ack w s))
+  unfolding transferring resumed selecting fromDisconnected loaded isEmpty
+  begin x k w u (rest o h apart) =
+      by-case Good _ (λ e. absurd (false≢true e)) (λ e. so _ n none-whole (selects (transfers-selects k) refl refl))
+  begin x k w u (rest o h joined) =
+      by-case Good _
+      (λ e.
+      by-pick Good _ (ended 0x16 _ n none-whole joined (transfer k) (unfixed refl))
+      (so _ n none-whole (transfers k (unfixed refl))))
+      (λ e. absurd (true≢false e))
+
+  inform : (single : Bool) {p : Pending} {r : Running} {c : Connection} {d : Direction} {q : Fifo} {atn ack : Bool} (w : Noted)
+      → Whole q → Rest p r c d q atn ack → isConnected c ≡ true → Good (informing single (being p r c d q atn ack w s))
+  unfolding informing loadedInfo isEmpty
+  inform single w u (rest o h apart) e = absurd (false≢true e)
+  inform single w u (rest o h joined) e =
+      so _
+      (record {
+        cdb-long = n .cdb-long;
+        count-below = by-pick (λ (x : ℕ). x < 16777216) _ (omega arith) (n .count-below);
+        identity-below = n .identity-below;
+      })
+      none-whole (informs (empty-way (wayOf w) refl) refl)
+
+-- ---- the tests before a command
+
+placed : (k j : ℕ) (a : Connection) → eqb k j ≡ true → isPlace (entryOf k .place) a ≡ true → isPlace (entryOf j .place) a ≡ true
+placed k j a e h = rw (eqb-true k j e) at h
+
+levelled : (k j : ℕ) → eqb k j ≡ true → isTwo (entryOf j .level) ≡ true → isTwo (entryOf k .level) ≡ true
+levelled k j e h = rw (eqb-true k j e) h
+
+picked : {A : Type 0} (t : Bool) (x y : A) → t ≡ true → pick t x y ≡ x
+unfolding pick
+picked true x y e = refl
+picked false x y e = absurd (false≢true e)
+
+pub refused : (x y : Bool) → both x y ≡ false → y ≡ true → x ≡ false
+unfolding both
+refused true y e h = clash h e
+refused false y e h = refl
+
+unlisted : (k : ℕ) → eqb k 0x00 ≡ false → eqb k 0x01 ≡ false → eqb k 0x02 ≡ false → eqb k 0x03 ≡ false → eqb k 0x04 ≡ false
+    → eqb k 0x06 ≡ false → eqb k 0x07 ≡ false → eqb k 0x08 ≡ false → eqb k 0x09 ≡ false → eqb k 0x0F ≡ false → isListed k ≡ false
+unfolding isListed either
+unlisted k n0 n1 n2 n3 n4 n6 n7 n8 n9 n15 = rw (n0, n1, n2, n3, n4, n6, n7, n8, n9, n15)
+
+-- 40h is raised where no command runs
+forty-shape : (s : State) → Numbered s → (b : ℕ)
+    → {p : Pending} {r : Running} {c : Connection} {d : Direction} {q : Fifo} {atn ack : Bool} (w : Noted)
+    → Whole q → Rest p r c d q atn ack → Good (interrupt 0x40 (accepted b (being p r c d q atn ack w s)))
+unfolding accepted
+forty-shape s n b w u (rest o h l) = so _ n u (idle refl o h l)
+
+module _ (s : State) (n : Numbered s) (k : ℕ) (single : Bool) where
+  carried-out : {p : Pending} {r : Running} {a : Connection} {d : Direction} {q : Fifo} {atn ack : Bool} {w : Noted}
+      → Whole q → Shape (s .transfer .one) (s .registers .count) p r a d q atn ack w → isInterrupt p ≡ false → isPlace (entryOf k .place) a ≡ true
+      → (isTwo (entryOf k .level) ≡ true → either (isRunning r) (isEnding p) ≡ false)
+      → (eqb k 0x01 ≡ true → both (either (isRunning r) (isEnding p)) (not (isEnding p)) ≡ true)
+      → eqb k 0x00 ≡ false
+      → Good (carriedOut k single (being p r a d q atn ack w s))
+  unfolding carriedOut disconnected entryOf table isEmpty
+  carried-out {p = p} {r = r} {a = a} {q = q} {atn = atn} {ack = ack} {w = w} u g i l calm ready n0 =
+      by-case Good _
+      (λ e.
+      let x = ready e in
+      abort s n u g (not-true (isEnding p) (both-second _ _ x)) (both-first _ (not (isEnding p)) x))
+      λ n1.
+      by-case Good _ (λ e. so _ n u (lines true ack g (placed k 0x02 a e l))) λ n2.
+      by-case Good _ (λ e. so _ n u (lines atn false g (placed k 0x03 a e l))) λ n3.
+      by-case Good _ (λ e. so _ n none-whole (idle refl refl refl apart)) λ n4.
+      by-case Good _
+      (λ e. select s n SelectWithAtn six w u (resting g i (calm (levelled k 0x06 e refl))) (placed k 0x06 a e l))
+      λ n6.
+      by-case Good _
+      (λ e. select s n SelectWithoutAtn seven w u (resting g i (calm (levelled k 0x07 e refl))) (placed k 0x07 a e l))
+      λ n7.
+      by-case Good _ (λ e. begin s n TransferWithAtn with-atn w u (resting g i (calm (levelled k 0x08 e refl)))) λ n8.
+      by-case Good _ (λ e. begin s n TransferWithoutAtn without-atn w u (resting g i (calm (levelled k 0x09 e refl)))) λ n9.
+      by-case Good _ (λ e. so _ n u g)
+      λ n15.
+      let x : isLikeInfo (entryOf k) ≡ true = as-info k (unlisted k n0 n1 n2 n3 n4 n6 n7 n8 n9 n15) in
+      inform s n single w u (resting g i (calm (both-first _ _ x)))
+      (narrow (entryOf k .place) a (both-second (isTwo (entryOf k .level)) _ x) l)
+
+module _ (b : ℕ) (s : State) (g : Good s) where
+  abbrev code : ℕ
+  code = codeOf b
+
+  reset-kept : Good (reset b s)
+  unfolding reset ownIdentity isEmpty
+  reset-kept =
+      so _ (record { cdb-long = refl; count-below = omega arith; identity-below = omega arith }) none-whole
+      (idle refl refl refl apart)
+
+  calm : isRefusedBusy code s ≡ false → isTwo (entryOf code .level) ≡ true
+      → either (isRunning (s .transfer .running)) (isEnding (s .status .pending)) ≡ false
+  unfolding isRefusedBusy busy either
+  calm f t = refused _ (either (isTwo (entryOf code .level)) (not (isValid code s))) f (rw t)
+
+  forty : isInterrupt (s .status .pending) ≡ false → isRefusedBusy code s ≡ false → isValid code s ≡ false
+      → Good (interrupt 0x40 (accepted b s))
+  unfolding isRefusedBusy busy accepted
+  forty i f v =
+      forty-shape s (g .numbers) b (s .wire .reported) (g .whole)
+      (resting (g .shape) i
+      (refused _ (either (isTwo (entryOf code .level)) (not (isValid code s))) f (rw v (either-last (isTwo (entryOf code .level))))))
+
+  ready : isValid code s ≡ true → eqb code 0x01 ≡ true
+      → both (either (isRunning (s .transfer .running)) (isEnding (s .status .pending))) (not (isEnding (s .status .pending))) ≡ true
+  unfolding isValid isReady busy
+  ready v e = sym (picked _ _ _ e) ∙ both-second (isPlace (entryOf code .place) (s .wire .connection)) _ v
+
+  pub commanded-kept : Fine (commanded b s)
+  unfolding commanded accepted isValid
+  commanded-kept =
+      by-case Fine _ (λ e. reset-kept) λ n0.
+      by-case Fine _ (λ e. so _ (g .numbers) (g .whole) (g .shape)) λ i.
+      by-case Fine _ (λ e. so _ (g .numbers) (g .whole) (g .shape)) λ f.
+      by-case Fine _
+      (λ v.
+      carried-out (accepted b s) (g .numbers) code _ (g .whole) (g .shape) i (both-first _ _ v) (calm f) (ready v) n0)
+      (λ v. forty i f v)

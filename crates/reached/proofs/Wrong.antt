@@ -1,0 +1,43 @@
+-- The law refutes the wrong steps of specs/Wrong.antt, each at one call and one state. A name says which step falls.
+use mathlib.Core.Path.{refl}
+use mathlib.Core.Bool.{true, true≢false}
+use Rattle.chip.specs.State.{fresh, setAck, setConnection, setRunning, setTimeout}
+use Rattle.chip.specs.Fifo.{isEmpty}
+use Rattle.chip.specs.Calls.{time, free}
+use Rattle.chip.specs.declared.State.{State}
+use Rattle.chip.specs.declared.Connection.the-variants.{Selecting, Connected}
+use Rattle.chip.specs.declared.Running.the-variants.{SelectWithAtn}
+use Rattle.chip.proofs.Computing.{everything}
+use Rattle.reached.specs.Sound.{joined, idle, selects, six, Sound, Kept}
+use Rattle.reached.specs.Wrong.{staysSelecting, keepsAck}
+use Rattle.reached.proofs.Shapes.{so}
+use Rattle.reached.proofs.Laws.{by-parts, of-parts, fresh-sound}
+use Rattle.reached.proofs.Facts.{facts}
+
+-- selecting with 06, the timeout after one unit
+abbrev calling : State
+calling = setTimeout 1 (setRunning SelectWithAtn (setConnection Selecting fresh))
+
+calling-sound : Sound calling
+unfolding isEmpty
+calling-sound =
+    let g = by-parts fresh-sound in
+    of-parts (so _ (g .numbers) (g .whole) (selects six refl refl))
+
+pub stays-selecting-falls : Kept staysSelecting → ⊥
+unfolding everything staysSelecting
+stays-selecting-falls h = true≢false (facts (h (time 1) calling calling-sound) .int-idle refl)
+
+-- connected and idle, ACK held
+abbrev holding : State
+holding = setAck true (setConnection Connected fresh)
+
+holding-sound : Sound holding
+unfolding isEmpty
+holding-sound =
+    let g = by-parts fresh-sound in
+    of-parts (so _ (g .numbers) (g .whole) (idle refl refl refl joined))
+
+pub keeps-ack-falls : Kept keepsAck → ⊥
+unfolding everything keepsAck
+keeps-ack-falls h = true≢false (facts (h free holding holding-sound) .ack-apart refl)
