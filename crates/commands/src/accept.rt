@@ -36,7 +36,8 @@ fn is_abortable(s: State) -> bool
     false
 }
 
-fn is_on_the_bus(s: State) -> bool
+// Connected: the command finds a Target on the bus.
+pub fn is_on_the_bus(s: State) -> bool
     ensures { λ r. ⌜ r ≡ isConnected (s .wire .connection) ⌝ }
 {
     table::is_connected(get::connection(s))

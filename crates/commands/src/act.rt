@@ -1,8 +1,8 @@
 // What each command does.
 ghost use mathlib.Core.Path.{_≡_};
-ghost use Rattle.chip.specs.Commands.{abortPhase, aborted, disconnected, informing, isConnected, reset, selecting, transferring, wayOf};
+ghost use Rattle.chip.specs.Commands.{abortPhase, aborted, disconnected, informing, reset, selecting, transferring, wayOf};
 ghost use Rattle.chip.specs.State.{apart, cleared, nothingRuns};
-use crate::table;
+use crate::accept;
 use chip::Connection;
 use chip::Direction;
 use chip::Identity;
@@ -98,16 +98,10 @@ fn abort_phase(n: Noted) -> Phase
     }
 }
 
-fn is_on_the_bus(s: State) -> bool
-    ensures { λ r. ⌜ r ≡ isConnected (s .wire .connection) ⌝ }
-{
-    table::is_connected(get::connection(s))
-}
-
 pub fn aborted(s: State) -> State
     ensures { λ r. ⌜ r ≡ aborted s ⌝ }
 {
-    if is_on_the_bus(s) {
+    if accept::is_on_the_bus(s) {
         let p = abort_phase(get::last(s));
         return interrupts::ending_with(codes::aborted(p), set::reported(s, Noted::Was(p)));
     }
@@ -137,7 +131,7 @@ pub fn selecting(r: Running, s: State) -> State
 pub fn transferring(r: Running, s: State) -> State
     ensures { λ x. ⌜ x ≡ transferring r s ⌝ }
 {
-    if is_on_the_bus(s) {
+    if accept::is_on_the_bus(s) {
         return resume::resumed(r, s);
     }
     selecting(r, resume::from_disconnected(s))
