@@ -1,0 +1,399 @@
+-- With the host that serves by one Select-And-Transfer, each move leads from a scene that can be reached to one that can.
+--   bus-step, pass-step, work-step   a move of the Target, units of time, a call of the host
+use mathlib.Core.Path.{_≡_, refl, sym, _∙_, ap, subst}
+use mathlib.Core.Bool.{Bool, true, false}
+use mathlib.Core.List.{List, [], _∷_, _++_, append-assoc, append-nil}
+use mathlib.Core.Logic.{_⊎_, inl, inr, ⊎-elim}
+use Prim.Native.Nat.{ℕ, suc, _+_, _-_, _/_, _%_, _≤_, _<_}
+use native.Mathlib.Omega.{arith}
+use native.Mathlib.Nat.{zero-add}
+use lib.Dec.{ltb, leb, eqb}
+use lib.ListN.{length, getD, length-append}
+use lib.Seq.{getD-append-seam}
+use borrow.Author.Tests.{lt-ltb, le-ltb, eq-eqb, ne-eqb, lt-leb, eqb-true, ltb-true, ltb-false}
+use Rattle.chip.specs.Choice.{pick}
+use Rattle.chip.specs.Calls.{step}
+use Rattle.chip.specs.Lines.{isOn, identify, bit}
+use Rattle.chip.specs.Phases.{phaseOf}
+use Rattle.chip.specs.Registers.{registerAt}
+use Rattle.chip.specs.SelectAndTransfer.{sizeOf, stageOf}
+use Rattle.chip.specs.declared.State.{State}
+use Rattle.chip.specs.declared.Registers.{Registers}
+use Rattle.chip.specs.declared.Connection.{Connection}
+use Rattle.chip.specs.declared.Stage.the-variants.{SendCommand, Body, AfterData}
+use Rattle.chip.specs.declared.Phase.the-variants.{DataIn, CommandOut, MessageOut}
+use Rattle.image.specs.Ok.{Bytes}
+use Rattle.story.specs.Story.{Item, item, items, Way, inward, outward, wayPhase, Job, loaded, identifies, close, story, Proper}
+use Rattle.story.specs.Hosts.{Access, get, Note, note, Host, countGets, byTransfer}
+use Rattle.story.specs.Schedule.{Target, Scene, bus, access, passing}
+use Rattle.story.specs.Demand.{incomingData}
+use Rattle.story.proofs.Opening.{steps}
+use Rattle.story.proofs.Time.{isSelecting, still}
+use Rattle.story.proofs.Parts.{theScene, Aimed, before, aimed, Polled, coded, taken, sent, Polls, look, seen, ready, Plays, over, puts, gets, stored-is}
+use Rattle.story.proofs.Queue.{Lined, none-lined, empty-none, empty-some, room-is, waits-is, front-is, fits, popped, pushed}
+use Rattle.story.proofs.Small.{true-or-false, length-snoc, one-less, bytes-tail, next-byte, polls-look, small-address, items-snoc, Quiet, unfixed, drained}
+use Rattle.story.proofs.Stages.{stage-identify, stage-status, stage-data, stage-next, stage-full, size-small, expects-after}
+use Rattle.story.proofs.TransferScenes.{CommandPhase, first, later, Expects, body, late, Set, Ready, Spared, Hands, reads, writes, Tale, Coming, Going, Left, some, none, Finals, finalNotes, Closes, reading, resting, Reach, loads, seeks, greets, commands, comes, goes, statuses, ends, told, calm, gone, rests}
+
+command-at : (had : List ℕ) (b : ℕ) (rest command behind cd : List ℕ) → had ++ (b ∷ rest) ≡ command → cd ≡ command ++ behind
+    → getD cd (length had) 0 ≡ b
+command-at had b rest command behind cd e f =
+    rw (f, ← e, append-assoc had (b ∷ rest) behind) (getD-append-seam had b (rest ++ behind) 0)
+
+first-of : (command behind cd : List ℕ) → 0 < length command → cd ≡ command ++ behind → getD cd 0 0 ≡ getD command 0 0
+first-of [] behind cd h e = absurd (omega arith)
+first-of (b ∷ command) behind cd h e = rw e
+
+module _ (j : Job) (pr : Proper j) where
+  size-is : {cd : List ℕ} {lu src : ℕ} → Set j cd lu src → sizeOf (getD cd 0 0) ≡ length (j .command)
+  size-is {cd = cd} s = ap sizeOf (first-of (j .command) (s .behind) cd (pr .command-some) (s .cdb)) ∙ sym (pr .command-sized)
+
+  size-most : {cd : List ℕ} {lu src : ℕ} → Set j cd lu src → sizeOf (getD cd 0 0) ≤ 12
+  size-most {cd = cd} s = size-small (getD cd 0 0)
+
+  pub next-is : {cd : List ℕ} {lu src : ℕ} (ph : ℕ) (had : List ℕ) (b : ℕ) (rest : List ℕ) → Set j cd lu src → CommandPhase ph (length had)
+      → had ++ (b ∷ rest) ≡ j .command → stageOf true ph (sizeOf (getD cd 0 0)) ≡ SendCommand (length had)
+  next-is ph had b rest s q e =
+      let n : length had + suc (length rest) ≡ length (j .command) = sym (length-append had (b ∷ rest)) ∙ ap length e in
+      stage-next ph (length had) _ q (omega (arith, size-is s)) (size-most s)
+
+  pub full-is : {cd : List ℕ} {lu src : ℕ} (ph : ℕ) (had : List ℕ) → Set j cd lu src → CommandPhase ph (length had) → had ++ [] ≡ j .command
+      → stageOf true ph (sizeOf (getD cd 0 0)) ≡ Body
+  full-is ph had s q e =
+      let n : length had ≡ length (j .command) = ap length (sym (append-nil had) ∙ e) in
+      stage-full ph (length had) _ q (omega (arith, size-is s)) (omega (arith, size-is s, pr .command-some)) (size-most s)
+
+  small-lun : j .unit % 8 ≡ j .unit
+  small-lun = omega (arith, pr .unit-small)
+
+  pub identify-is : {cd : List ℕ} {lu src : ℕ} → Set j cd lu src → identify (record { number = lu % 8 }) (isOn 7 src) ≡ identifies j
+  unfolding identify
+  identify-is s = rw (s .unit, s .er, small-lun, small-lun)
+
+  onto : {log l : List Item} {i : Item} → Tale j log (i ∷ l) → Tale j (log ++ (i ∷ [])) l
+  onto {log = log} {l = l} {i = i} t = record { whole = append-assoc log (i ∷ []) l ∙ t .whole }
+
+  opening-tale : {w : Way} {v : List ℕ} → Hands j w (j .moved) v
+      → Tale j (item MessageOut (identifies j) ∷ []) (items CommandOut (j .command) ++ (items (wayPhase w) (j .moved) ++ close j))
+  opening-tale (reads e f) = record { whole = rw e }
+  opening-tale (writes e f g) = record { whole = rw e }
+
+  none-in : {w : Way} {v : List ℕ} → Hands j w [] v → incomingData (j .way) (j .moved) ≡ []
+  none-in (reads e f) = rw (e, ← f)
+  none-in (writes e f g) = rw e
+
+  none-out : j .way ≡ outward → incomingData (j .way) (j .moved) ≡ []
+  none-out e = rw e
+
+  one-in : {got : List Item} (fifo : List ℕ) (x : ℕ) (rest : List ℕ) → Coming j got fifo (x ∷ rest) → Coming j got (fifo ++ (x ∷ [])) rest
+  one-in fifo x rest i =
+      record {
+        had = i .had;
+        read = i .read;
+        all = ap (λ (l : List ℕ). i .had ++ l) (append-assoc fifo (x ∷ []) rest) ∙ i .all;
+        bytes = bytes-tail x rest (i .bytes);
+      }
+
+  same-byte : (y : ℕ) (fifo : List ℕ) (x : ℕ) (rest give : List ℕ) → Going j (y ∷ fifo) (x ∷ rest) give → y ≡ x
+  same-byte y fifo x rest give g = let e = g .line in cc
+
+  one-out : (y : ℕ) (fifo : List ℕ) (x : ℕ) (rest give : List ℕ) → Going j (y ∷ fifo) (x ∷ rest) give → Going j fifo rest give
+  one-out y fifo x rest give g =
+      let e = g .line in
+      record { line = cc; bytes = g .bytes }
+
+  all-read : {got : List Item} → j .way ≡ inward → Coming j got [] [] → got ≡ items DataIn (incomingData (j .way) (j .moved))
+  all-read w i = i .read ∙ (rw w (ap (items DataIn) (sym (append-nil (i .had)) ∙ i .all)))
+
+  none-read : incomingData (j .way) (j .moved) ≡ [] → [] ≡ items DataIn (incomingData (j .way) (j .moved))
+  none-read e = rw e
+
+  -- a host that looks, or is at a data byte, does so with INT as well
+  no-code : {l : List Access} {f : Bool} {a : ℕ} → Polls false l f a → Polls true l f a
+  no-code look = look
+  no-code (seen taken) = seen taken
+  no-code (seen sent) = seen sent
+  no-code (ready taken) = ready taken
+  no-code (ready sent) = ready sent
+
+  still-closes : {l : List Access} {f : Bool} {a : ℕ} {r : Registers} {n : List Note} → Closes j false l f a r n → Closes j true l f a r n
+  still-closes (reading p a) = reading p a
+  still-closes (resting p n) = resting (no-code p) n
+
+  moved-byte : {x : ℕ} {d : List ℕ} → x ∷ d ≡ j .moved → x < 256
+  moved-byte {x} {d} f = subst (λ (l : List ℕ). Bytes l) (sym f) (pr .moved-bytes) 0
+
+  first-in : {x : ℕ} {d : List ℕ} → j .way ≡ inward → x ∷ d ≡ j .moved → Coming j [] (x ∷ []) d
+  first-in {x} {d} w f =
+      record { had = []; read = refl; all = f; bytes = bytes-tail x d (subst (λ (l : List ℕ). Bytes l) (sym f) (pr .moved-bytes)) }
+
+  no-bytes : Bytes []
+  no-bytes = λ k. omega arith
+
+  pub bus-step : {c : Scene} → Reach j c → Reach j (bus step (byTransfer j) c)
+  unfolding steps phaseOf
+  bus-step (loads p a h t b) = loads p a h t b
+  bus-step (seeks s p h t b) = greets s p h b
+  bus-step (greets s p h b) =
+      rw (stage-identify _, identify-is s) (commands [] (j .command) (j .moved) s p h b first refl (opening-tale h))
+  bus-step (commands {ph = ph} had (x ∷ rest) d s p h b q e t) =
+      rw (next-is ph had x rest s q e, command-at had x rest (j .command) (s .behind) _ e (s .cdb))
+      (commands (had ++ (x ∷ [])) rest d s p h b (later (length-snoc had x)) (append-assoc had (x ∷ []) rest ∙ e) (onto t))
+  bus-step (commands {ph = ph} had [] [] s p h b q e t) =
+      rw (full-is ph had s q e, lt-ltb (j .status) 256 (pr .status-byte)) (statuses p (none (none-in h)) b (zero-add _) (onto t))
+  bus-step (commands {ph = ph} had [] (x ∷ d) s p (reads w f) b q e t) =
+      rw (
+        full-is ph had s q e,
+        lt-ltb x 256 (moved-byte f),
+        ne-eqb (suc (length d) + length (j .beyond)) 0 (omega arith),
+        room-is none-lined,
+        one-less (length d) (length (j .beyond)),
+      )
+      (comes (x ∷ []) d w s p (pushed x none-lined (omega arith)) (first-in w f) (expects-after (length d) _ ph _ (full-is ph had s q e)) (onto t))
+  bus-step (commands {ph = ph} had [] (x ∷ d) s p (writes {v = v} w f g) b q e t) =
+      rw (full-is ph had s q e, ne-eqb (suc (length d) + length (j .beyond)) 0 (omega arith))
+      (goes [] (x ∷ d) v w s p none-lined (record { line = g; bytes = b }) (body (full-is ph had s q e)) t)
+  bus-step (comes fifo [] w s p n i (body e) t) =
+      rw (e, lt-ltb (j .status) 256 (pr .status-byte)) (statuses p (some fifo w n i) no-bytes (zero-add _) (onto t))
+  bus-step (comes fifo [] w s p n i (late e z) t) =
+      rw (e, lt-ltb (j .status) 256 (pr .status-byte)) (statuses p (some fifo w n i) no-bytes (zero-add _) (onto t))
+  bus-step (comes fifo (x ∷ rest) w s p n i (late e z) t) = absurd (omega arith)
+  bus-step (comes {ph = ph} fifo (x ∷ rest) w s p n i (body e) t) =
+      ⊎-elim
+      (λ r.
+      rw (
+        e,
+        lt-ltb x 256 (i .bytes 0),
+        ne-eqb (suc (length rest) + length (j .beyond)) 0 (omega arith),
+        room-is n,
+        r,
+        one-less (length rest) (length (j .beyond)),
+      )
+      (comes (fifo ++ (x ∷ [])) rest w s p (pushed x n (ltb-true _ _ r)) (one-in fifo x rest i) (expects-after (length rest) _ ph _ e) (onto t)))
+      (λ r.
+      rw (e, lt-ltb x 256 (i .bytes 0), ne-eqb (suc (length rest) + length (j .beyond)) 0 (omega arith), room-is n, r)
+      (comes fifo (x ∷ rest) w s p n i (body e) t))
+      (true-or-false (ltb (length fifo) 12))
+  bus-step (goes fifo [] give w s p n i (body e) t) =
+      rw (e, lt-ltb (j .status) 256 (pr .status-byte)) (statuses p (none (none-out w)) (i .bytes) (zero-add _) (onto t))
+  bus-step (goes fifo [] give w s p n i (late e z) t) =
+      rw (e, lt-ltb (j .status) 256 (pr .status-byte)) (statuses p (none (none-out w)) (i .bytes) (zero-add _) (onto t))
+  bus-step (goes fifo (x ∷ rest) give w s p n i (late e z) t) = absurd (omega arith)
+  bus-step (goes [] (x ∷ rest) give w s p n i (body e) t) =
+      rw (e, ne-eqb (suc (length rest) + length (j .beyond)) 0 (omega arith), empty-none n) (goes [] (x ∷ rest) give w s p n i (body e) t)
+  bus-step (goes {ph = ph} (y ∷ fifo) (x ∷ rest) give w s p n i (body e) t) =
+      rw (
+        e,
+        ne-eqb (suc (length rest) + length (j .beyond)) 0 (omega arith),
+        empty-some n,
+        front-is n,
+        same-byte y fifo x rest give i,
+        one-less (length rest) (length (j .beyond)),
+      )
+      (goes fifo rest give w s p (popped n) (one-out y fifo x rest give i) (expects-after (length rest) _ ph _ e) (onto t))
+  bus-step (statuses p (some [] w n i) b z t) =
+      rw (stage-status _, empty-none n, t .whole) (told (no-code p) (drained (empty-none n)) (all-read w i) b z)
+  bus-step (statuses p (some (x ∷ fifo) w n i) b z t) =
+      rw (stage-status _, empty-some n, t .whole) (ends fifo p w n i b z)
+  bus-step (statuses p (none e) b z t) = rw (stage-status _, t .whole) (told (no-code p) unfixed (none-read e) b z)
+  bus-step (ends fifo p w n i b z) = ends fifo p w n i b z
+  bus-step (told p q e b z) = told p q e b z
+  bus-step (calm k unfixed e b) = gone (still-closes k) unfixed e b
+  bus-step (calm k (drained f) e b) = gone (still-closes k) (drained f) e b
+  bus-step (gone k q e b) = gone k q e b
+  bus-step (rests p n q e b) = rests p n q e b
+
+  spare-on : {tm el pa : ℕ} (n : ℕ) → Spared j tm el pa → n < pa → Spared j tm el (pa - n)
+  spare-on {tm} {el} {pa} n t h = ⊎-elim (λ e. record { time = inl e }) (λ e. record { time = inr (omega arith) }) (t .time)
+
+  spare-less : {tm : ℕ} (el pa n : ℕ) → el + pa ≤ tm → n < pa → Spared j tm (el + n) (pa - n)
+  spare-less el pa n e h = record { time = inr (omega arith) }
+
+  unmoved : (n : ℕ) (s : State) (h : Host) (t : Target) (k : Connection) → s .wire .connection ≡ k → isSelecting k ≡ false → Reach j (theScene s h t)
+      → Reach j (passing step (byTransfer j) n (theScene s h t))
+  unmoved n s h t k e f r = subst (λ (c : Scene). Reach j c) (sym (still (byTransfer j) n s h t k e f)) r
+
+  -- while it is being selected, the Target lets time pass within its patience, or answers
+  pub pass-step : (n : ℕ) {c : Scene} → Reach j c → Reach j (passing step (byTransfer j) n c)
+  unfolding steps
+  pass-step n (seeks {pa = pa} {el = el} {tm = tm} s p h t b) =
+      ⊎-elim
+      (λ r.
+      ⊎-elim
+      (λ u.
+      ⊎-elim
+      (λ z. rw r (rw u (rw (eq-eqb tm 0 z) (seeks s p h (spare-on n t (ltb-true n pa r)) b))))
+      (λ z.
+      rw r
+      (rw u
+      (rw (ne-eqb tm 0 (omega (arith, z, ltb-true n pa r)), lt-leb tm (el + n) (omega (arith, z, ltb-true n pa r)))
+      (seeks s p h (spare-less el pa n z (ltb-true n pa r)) b))))
+      (t .time))
+      (λ u. rw r (rw u (seeks s p h (spare-on n t (ltb-true n pa r)) b)))
+      (true-or-false (ltb n 256)))
+      (λ r. rw r (greets s p h b))
+      (true-or-false (ltb n pa))
+  pass-step n (loads p a h t b) = unmoved n _ _ _ _ refl refl (loads p a h t b)
+  pass-step n (greets s p h b) = unmoved n _ _ _ _ refl refl (greets s p h b)
+  pass-step n (commands had rest d s p h b q e t) = unmoved n _ _ _ _ refl refl (commands had rest d s p h b q e t)
+  pass-step n (comes fifo rest w s p q i x t) = unmoved n _ _ _ _ refl refl (comes fifo rest w s p q i x t)
+  pass-step n (goes fifo rest give w s p q i x t) = unmoved n _ _ _ _ refl refl (goes fifo rest give w s p q i x t)
+  pass-step n (statuses p f b z t) = unmoved n _ _ _ _ refl refl (statuses p f b z t)
+  pass-step n (ends fifo p w q i b z) = unmoved n _ _ _ _ refl refl (ends fifo p w q i b z)
+  pass-step n (told p q e b z) = unmoved n _ _ _ _ refl refl (told p q e b z)
+  pass-step n (calm k q e b) = unmoved n _ _ _ _ refl refl (calm k q e b)
+  pass-step n (gone k q e b) = unmoved n _ _ _ _ refl refl (gone k q e b)
+  pass-step n (rests p m q e b) = unmoved n _ _ _ _ refl refl (rests p m q e b)
+
+  one-read : {got : List Item} (x : ℕ) (fifo rest : List ℕ) → Coming j got (x ∷ fifo) rest → Coming j (got ++ (item DataIn x ∷ [])) fifo rest
+  one-read x fifo rest i =
+      record {
+        had = i .had ++ (x ∷ []);
+        read = ap (λ (l : List Item). l ++ (item DataIn x ∷ [])) (i .read) ∙ sym (items-snoc DataIn (i .had) x);
+        all = append-assoc (i .had) (x ∷ []) (fifo ++ rest) ∙ i .all;
+        bytes = i .bytes;
+      }
+
+  one-more : (fifo rest : List ℕ) (y : ℕ) (give : List ℕ) → Going j fifo rest (y ∷ give) → Going j (fifo ++ (y ∷ [])) rest give
+  one-more fifo rest y give g = record { line = append-assoc fifo (y ∷ []) give ∙ g .line; bytes = bytes-tail y give (g .bytes) }
+
+  spared-at : {t u pa : ℕ} → u ≡ t → Spared j t 0 pa → Spared j u 0 pa
+  spared-at {pa = pa} e s = subst (λ (t : ℕ). Spared j t 0 pa) (sym e) s
+
+  has-size : {cd : List ℕ} {lu src : ℕ} → Set j cd lu src → 0 < sizeOf (getD cd 0 0)
+  has-size s = omega (arith, size-is s, pr .command-some)
+
+  one-taken : {got : List Item} (x : ℕ) (fifo : List ℕ) → Coming j got (x ∷ fifo) [] → Coming j (got ++ (item DataIn x ∷ [])) fifo []
+  one-taken x fifo i = one-read x fifo [] i
+
+  -- going out, as many bytes wait or are in the host's hands as are left to cross
+  full-out : (fifo rest : List ℕ) → Going j fifo rest [] → ltb (length fifo) (length rest + length (j .beyond)) ≡ false
+  full-out fifo rest g =
+      le-ltb (length fifo) (length rest + length (j .beyond))
+      (omega (arith, length-append fifo [], length-append rest (j .beyond), ap length (g .line)))
+
+  owed-out : (fifo rest : List ℕ) (y : ℕ) (give : List ℕ) → Going j fifo rest (y ∷ give)
+      → ltb (length fifo) (length rest + length (j .beyond)) ≡ true
+  owed-out fifo rest y give g =
+      lt-ltb (length fifo) (length rest + length (j .beyond))
+      (omega (arith, length-append fifo (y ∷ give), length-append rest (j .beyond), ap length (g .line)))
+
+  closes-on : {i : Bool} {l : List Access} {a : ℕ} {r : Registers} {n : List Note} → Plays [] (Finals j) l r n → Closes j i l false a r n
+  closes-on (over g) = resting look g
+  closes-on (puts u k p) = reading (puts u k p) before
+  closes-on (gets u p) = reading (gets u p) before
+
+  final-plays : (r : Registers) → r .lun ≡ j .status → r .count ≡ length (j .beyond) → Plays [] (Finals j) (get 0x0F ∷ countGets) r []
+  unfolding registerAt pick
+  final-plays r e f =
+      gets {a = 0x0F} (omega arith)
+      (gets {a = 0x12} (omega arith)
+      (gets {a = 0x13} (omega arith) (gets {a = 0x14} (omega arith) (over (record { notes = notes-are })))))
+    where
+      n : ℕ
+      n = length (j .beyond)
+
+      high : n / 65536 % 256 ≡ n / 65536
+      high = omega (arith, pr .count-fits)
+
+      notes-are : note 0x0F (r .lun) ∷ note 0x12 (r .count / 65536 % 256) ∷ note 0x13 (r .count / 256 % 256) ∷ note 0x14 (r .count % 256) ∷ [] ≡ finalNotes j
+      notes-are = rw (e, f, high)
+
+  pub work-step : {c : Scene} → Reach j c → Reach j (access step (byTransfer j) c)
+  unfolding steps
+  work-step (loads (over g) before h t b) = loads (over g) aimed h t b
+  work-step (loads (over {r = r} g) aimed h t b) =
+      rw (lt-ltb 0 (sizeOf (getD (r .cdb) 0 0)) (has-size (g .set)), g .count, g .none)
+      (seeks (g .set) look h (spared-at (g .timeout) t) b)
+  work-step (loads (puts {a = a} {b = x} u k p) before h t b) = rw (lt-ltb a 256 (omega arith)) (loads (puts u k p) aimed h t b)
+  work-step (loads (puts {a = a} {b = x} u k p) aimed h t b) =
+      rw (lt-ltb x 256 k, lt-leb 0x1A a (omega arith), ne-eqb a 0x17 (omega arith), ne-eqb a 0x18 (omega arith), ne-eqb a 0x19 (omega arith), stored-is) (loads p before h t b)
+  work-step (loads (gets {a = a} u p) before h t b) = rw (lt-ltb a 256 (omega arith)) (loads (gets u p) aimed h t b)
+  work-step (loads (gets {a = a} u p) aimed h t b) = rw (lt-leb 0x1A a (omega arith), ne-eqb a 0x17 (omega arith), ne-eqb a 0x18 (omega arith), ne-eqb a 0x19 (omega arith)) (loads p before h t b)
+  work-step (seeks s look h t b) = seeks s (polls-look _ _ _ _ _ _ _) h t b
+  work-step (seeks s (seen k) h t b) = rw (small-address k) (seeks s (ready k) h t b)
+  work-step (seeks s (ready taken) h t b) = seeks s look h t b
+  work-step (seeks {v = v} s (ready sent) h t b) = rw (next-byte v b) (seeks s look h t b)
+  work-step (greets s look h b) = greets s (polls-look _ _ _ _ _ _ _) h b
+  work-step (greets s (seen k) h b) = rw (small-address k) (greets s (ready k) h b)
+  work-step (greets s (ready taken) h b) = greets s look h b
+  work-step (greets {v = v} s (ready sent) h b) = rw (next-byte v b) (greets s look h b)
+  work-step (commands had rest d s look h b q e t) = commands had rest d s (polls-look _ _ _ _ _ _ _) h b q e t
+  work-step (commands had rest d s (seen k) h b q e t) = rw (small-address k) (commands had rest d s (ready k) h b q e t)
+  work-step (commands had rest d s (ready taken) h b q e t) = commands had rest d s look h b q e t
+  work-step (commands {v = v} had rest d s (ready sent) h b q e t) = rw (next-byte v b) (commands had rest d s look h b q e t)
+  work-step (comes fifo rest w s look n i x t) = comes fifo rest w s (polls-look _ _ _ _ _ _ _) n i x t
+  work-step (comes fifo rest w s (seen k) n i x t) = rw (small-address k) (comes fifo rest w s (ready k) n i x t)
+  work-step (comes [] rest w s (ready taken) n i x t) = rw (empty-none n) (comes [] rest w s look n i x t)
+  work-step (comes (y ∷ []) rest w s (ready taken) n i x t) =
+      rw (empty-some n, front-is n, empty-none (popped n)) (comes [] rest w s look (popped n) (one-read y [] rest i) x t)
+  work-step (comes (y ∷ z ∷ fifo) rest w s (ready taken) n i x t) =
+      rw (empty-some n, front-is n, empty-some (popped n)) (comes (z ∷ fifo) rest w s look (popped n) (one-read y (z ∷ fifo) rest i) x t)
+  work-step (comes fifo rest w s (ready sent) n i x t) = comes fifo rest w s look n i x t
+  work-step (goes fifo rest give w s look n i x t) = goes fifo rest give w s (polls-look _ _ _ _ _ _ _) n i x t
+  work-step (goes fifo rest give w s (seen k) n i x t) = rw (small-address k) (goes fifo rest give w s (ready k) n i x t)
+  work-step (goes fifo rest give w s (ready taken) n i x t) = goes fifo rest give w s look n i x t
+  work-step (goes fifo rest [] w s (ready sent) n i x t) =
+      rw (waits-is n, full-out fifo rest i) (goes fifo rest [] w s look n i x t)
+  work-step (goes fifo rest (y ∷ give) w s (ready sent) n i x t) =
+      ⊎-elim
+      (λ r.
+      rw (lt-ltb y 256 (i .bytes 0), waits-is n, owed-out fifo rest y give i, room-is n)
+      (rw r (goes (fifo ++ (y ∷ [])) rest give w s look (pushed y n (ltb-true _ _ r)) (one-more fifo rest y give i) x t)))
+      (λ r.
+      rw (lt-ltb y 256 (i .bytes 0), waits-is n, owed-out fifo rest y give i, room-is n)
+      (rw r (goes fifo rest (y ∷ give) w s look n i x t)))
+      (true-or-false (ltb (length fifo) 12))
+  work-step (statuses look f b z t) = statuses (polls-look _ _ _ _ _ _ _) f b z t
+  work-step (statuses (seen k) f b z t) = rw (small-address k) (statuses (ready k) f b z t)
+  work-step (statuses (ready taken) (some [] w n i) b z t) = rw (empty-none n) (statuses look (some [] w n i) b z t)
+  work-step (statuses (ready taken) (some (y ∷ []) w n i) b z t) =
+      rw (empty-some n, front-is n, empty-none (popped n)) (statuses look (some [] w (popped n) (one-taken y [] i)) b z t)
+  work-step (statuses (ready taken) (some (y ∷ x ∷ fifo) w n i) b z t) =
+      rw (empty-some n, front-is n, empty-some (popped n)) (statuses look (some (x ∷ fifo) w (popped n) (one-taken y (x ∷ fifo) i)) b z t)
+  work-step (statuses (ready taken) (none e) b z t) = statuses look (none e) b z t
+  work-step (statuses {v = v} (ready sent) (some fifo w n i) b z t) = rw (next-byte v b) (statuses look (some fifo w n i) b z t)
+  work-step (statuses {v = v} (ready sent) (none e) b z t) = rw (next-byte v b) (statuses look (none e) b z t)
+  work-step (ends fifo look w n i b z) = ends fifo (polls-look _ _ _ _ _ _ _) w n i b z
+  work-step (ends fifo (seen k) w n i b z) = rw (small-address k) (ends fifo (ready k) w n i b z)
+  work-step (ends [] (ready taken) w n i b z) =
+      rw (empty-some n, front-is n, empty-none (popped n)) (told look (drained (empty-none (popped n))) (all-read w (one-taken _ [] i)) b z)
+  work-step (ends (y ∷ fifo) (ready taken) w n i b z) =
+      rw (empty-some n, front-is n, empty-some (popped n)) (ends fifo look w (popped n) (one-taken _ (y ∷ fifo) i) b z)
+  work-step (ends {v = v} fifo (ready sent) w n i b z) = rw (next-byte v b) (ends fifo look w n i b z)
+  work-step (told look q e b z) = told (polls-look _ _ _ _ _ _ _) q e b z
+  work-step (told (seen k) q e b z) = rw (small-address k) (told (ready k) q e b z)
+  work-step (told (ready coded) q e b z) = calm (reading (final-plays _ refl z) before) q e b
+  work-step (told (ready taken) unfixed e b z) = told look unfixed e b z
+  work-step (told {v = v} (ready sent) unfixed e b z) = rw (next-byte v b) (told look unfixed e b z)
+  work-step (told (ready taken) (drained f) e b z) = rw f (told look (drained f) e b z)
+  work-step (told {v = v} (ready sent) (drained f) e b z) = rw (next-byte v b) (told look (drained f) e b z)
+  work-step (calm (reading (puts {a = a} {b = x} u k p) before) q e b) = rw (lt-ltb a 256 (omega arith)) (calm (reading (puts u k p) aimed) q e b)
+  work-step (calm (reading (puts {a = a} {b = x} u k p) aimed) q e b) =
+      rw (lt-ltb x 256 k, lt-leb 0x1A a (omega arith), ne-eqb a 0x17 (omega arith), ne-eqb a 0x18 (omega arith), ne-eqb a 0x19 (omega arith), stored-is) (calm (closes-on p) q e b)
+  work-step (calm (reading (gets {a = a} u p) before) q e b) = rw (lt-ltb a 256 (omega arith)) (calm (reading (gets u p) aimed) q e b)
+  work-step (calm (reading (gets {a = a} u p) aimed) q e b) = rw (lt-leb 0x1A a (omega arith), ne-eqb a 0x17 (omega arith), ne-eqb a 0x18 (omega arith), ne-eqb a 0x19 (omega arith)) (calm (closes-on p) q e b)
+  work-step (calm (resting look n) q e b) = calm (resting (polls-look _ _ _ _ _ _ _) n) q e b
+  work-step (calm (resting (seen k) n) q e b) = rw (small-address k) (calm (resting (ready k) n) q e b)
+  work-step (calm (resting (ready taken) n) unfixed e b) = calm (resting look n) unfixed e b
+  work-step (calm {v = v} (resting (ready sent) n) unfixed e b) = rw (next-byte v b) (calm (resting look n) unfixed e b)
+  work-step (calm (resting (ready taken) n) (drained f) e b) = rw f (calm (resting look n) (drained f) e b)
+  work-step (calm {v = v} (resting (ready sent) n) (drained f) e b) = rw (next-byte v b) (calm (resting look n) (drained f) e b)
+  work-step (gone (reading (puts {a = a} {b = x} u k p) before) q e b) = rw (lt-ltb a 256 (omega arith)) (gone (reading (puts u k p) aimed) q e b)
+  work-step (gone (reading (puts {a = a} {b = x} u k p) aimed) q e b) =
+      rw (lt-ltb x 256 k, lt-leb 0x1A a (omega arith), ne-eqb a 0x17 (omega arith), ne-eqb a 0x18 (omega arith), ne-eqb a 0x19 (omega arith), stored-is) (gone (closes-on p) q e b)
+  work-step (gone (reading (gets {a = a} u p) before) q e b) = rw (lt-ltb a 256 (omega arith)) (gone (reading (gets u p) aimed) q e b)
+  work-step (gone (reading (gets {a = a} u p) aimed) q e b) = rw (lt-leb 0x1A a (omega arith), ne-eqb a 0x17 (omega arith), ne-eqb a 0x18 (omega arith), ne-eqb a 0x19 (omega arith)) (gone (closes-on p) q e b)
+  work-step (gone (resting look n) q e b) = gone (resting (polls-look _ _ _ _ _ _ _) n) q e b
+  work-step (gone (resting (seen k) n) q e b) = rw (small-address k) (gone (resting (ready k) n) q e b)
+  work-step (gone (resting (ready taken) n) unfixed e b) = gone (resting look n) unfixed e b
+  work-step (gone {v = v} (resting (ready sent) n) unfixed e b) = rw (next-byte v b) (gone (resting look n) unfixed e b)
+  work-step (gone (resting (ready taken) n) (drained f) e b) = rw f (gone (resting look n) (drained f) e b)
+  work-step (gone {v = v} (resting (ready sent) n) (drained f) e b) = rw (next-byte v b) (gone (resting look n) (drained f) e b)
+  work-step (gone (resting (ready coded) n) q e b) = rests look n q e b
+  work-step (rests look n q e b) = rests (polls-look _ _ _ _ _ _ _) n q e b
+  work-step (rests (seen k) n q e b) = rw (small-address k) (rests (ready k) n q e b)
+  work-step (rests (ready taken) n unfixed e b) = rests look n unfixed e b
+  work-step (rests {v = v} (ready sent) n unfixed e b) = rw (next-byte v b) (rests look n unfixed e b)
+  work-step (rests (ready taken) n (drained f) e b) = rw f (rests look n (drained f) e b)
+  work-step (rests {v = v} (ready sent) n (drained f) e b) = rw (next-byte v b) (rests look n (drained f) e b)

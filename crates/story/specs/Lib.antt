@@ -1,0 +1,5 @@
+pub mod Story
+pub mod Hosts
+pub mod Schedule
+pub mod Demand
+pub mod Runs
