@@ -6,3 +6,6 @@ pub mod TransferScenes
 pub mod Stages
 pub mod Time
 pub mod TransferSteps
+pub mod Polling
+pub mod Accesses
+pub mod TransferServes

@@ -120,7 +120,7 @@ module _ (j : Job) (pr : Proper j) where
   still-closes (reading p a) = reading p a
   still-closes (resting p n) = resting (no-code p) n
 
-  moved-byte : {x : ℕ} {d : List ℕ} → x ∷ d ≡ j .moved → x < 256
+  pub moved-byte : {x : ℕ} {d : List ℕ} → x ∷ d ≡ j .moved → x < 256
   moved-byte {x} {d} f = subst (λ (l : List ℕ). Bytes l) (sym f) (pr .moved-bytes) 0
 
   first-in : {x : ℕ} {d : List ℕ} → j .way ≡ inward → x ∷ d ≡ j .moved → Coming j [] (x ∷ []) d
@@ -260,7 +260,7 @@ module _ (j : Job) (pr : Proper j) where
   spared-at : {t u pa : ℕ} → u ≡ t → Spared j t 0 pa → Spared j u 0 pa
   spared-at {pa = pa} e s = subst (λ (t : ℕ). Spared j t 0 pa) (sym e) s
 
-  has-size : {cd : List ℕ} {lu src : ℕ} → Set j cd lu src → 0 < sizeOf (getD cd 0 0)
+  pub has-size : {cd : List ℕ} {lu src : ℕ} → Set j cd lu src → 0 < sizeOf (getD cd 0 0)
   has-size s = omega (arith, size-is s, pr .command-some)
 
   one-taken : {got : List Item} (x : ℕ) (fifo : List ℕ) → Coming j got (x ∷ fifo) [] → Coming j (got ++ (item DataIn x ∷ [])) fifo []
@@ -272,18 +272,18 @@ module _ (j : Job) (pr : Proper j) where
       le-ltb (length fifo) (length rest + length (j .beyond))
       (omega (arith, length-append fifo [], length-append rest (j .beyond), ap length (g .line)))
 
-  owed-out : (fifo rest : List ℕ) (y : ℕ) (give : List ℕ) → Going j fifo rest (y ∷ give)
+  pub owed-out : (fifo rest : List ℕ) (y : ℕ) (give : List ℕ) → Going j fifo rest (y ∷ give)
       → ltb (length fifo) (length rest + length (j .beyond)) ≡ true
   owed-out fifo rest y give g =
       lt-ltb (length fifo) (length rest + length (j .beyond))
       (omega (arith, length-append fifo (y ∷ give), length-append rest (j .beyond), ap length (g .line)))
 
-  closes-on : {i : Bool} {l : List Access} {a : ℕ} {r : Registers} {n : List Note} → Plays [] (Finals j) l r n → Closes j i l false a r n
+  pub closes-on : {i : Bool} {l : List Access} {a : ℕ} {r : Registers} {n : List Note} → Plays [] (Finals j) l r n → Closes j i l false a r n
   closes-on (over g) = resting look g
   closes-on (puts u k p) = reading (puts u k p) before
   closes-on (gets u p) = reading (gets u p) before
 
-  final-plays : (r : Registers) → r .lun ≡ j .status → r .count ≡ length (j .beyond) → Plays [] (Finals j) (get 0x0F ∷ countGets) r []
+  pub final-plays : (r : Registers) → r .lun ≡ j .status → r .count ≡ length (j .beyond) → Plays [] (Finals j) (get 0x0F ∷ countGets) r []
   unfolding registerAt pick
   final-plays r e f =
       gets {a = 0x0F} (omega arith)
