@@ -9,3 +9,6 @@ pub mod TransferSteps
 pub mod Polling
 pub mod Accesses
 pub mod TransferServes
+pub mod PhaseScenes
+pub mod PhaseFacts
+pub mod PhaseSteps

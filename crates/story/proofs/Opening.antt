@@ -26,7 +26,7 @@ unfoldable pub steps : Unit {0}
 unfolding scenes Choice.pick Choice.both Choice.either Lines.er Lines.lunOf Lines.isSingle Lines.codeOf Count.left Count.noneLeft Count.isLast
     Count.lowered Count.loaded Count.meansOne Count.loadedInfo Interrupts.busy Interrupts.outgoingDropped Interrupts.raise
     Interrupts.unread Interrupts.endingWith Interrupts.settledBy Interrupts.settled Interrupts.unlessInterrupt Info.dbr Info.unlessHalted
-    Info.parityNoted Info.atnAfter Info.infoOut Info.takenIn Info.infoTaken Info.infoIn Info.infoOver Info.infoRequest Info.infoFreeCode
+    Info.parityNoted Info.atnAfter Info.infoOut Info.takenIn Info.infoTaken Info.infoIn Info.overCode Info.infoOver Info.infoRequest Info.infoFreeCode
     Sat.size Sat.unexpected Sat.sendIdentify Sat.sendCommand Sat.phaseAfter Sat.sendData Sat.takeData Sat.dataOut Sat.dataIn
     Sat.unlessNoneLeft Sat.takeStatus Sat.takeMessage Sat.bodyRequest Sat.lateRequest Sat.completed Sat.takeComplete Sat.requestAt
     Sat.transferRequest Sat.transferFree Sat.fromDisconnected Sat.hasSize Commands.table Commands.entryOf Commands.isReady

@@ -41,6 +41,9 @@ items-snoc p (x ∷ l) b = ap (λ (t : List Item). item p x ∷ t) (items-snoc p
 pub bytes-tail : (b : ℕ) (l : List ℕ) → Bytes (b ∷ l) → Bytes l
 bytes-tail b l h = λ k. h (suc k)
 
+pub no-bytes : Bytes []
+no-bytes = λ k. omega arith
+
 pub next-byte : (l : List ℕ) → Bytes l → ltb (nextByte l) 256 ≡ true
 next-byte [] h = refl
 next-byte (b ∷ l) h = lt-ltb b 256 (h 0)
@@ -145,3 +148,11 @@ small-address sent = refl
 pub data Quiet : Direction → Fifo → Type 0 where
   unfixed : {q : Fifo} → Quiet Unfixed q
   drained : {q : Fifo} → isEmpty q ≡ true → Quiet In q
+
+-- a host that looks, or is at a data byte, does so with INT as well
+pub no-code : {l : List Access} {f : Bool} {a : ℕ} → Polls false l f a → Polls true l f a
+no-code look = look
+no-code (seen taken) = seen taken
+no-code (seen sent) = seen sent
+no-code (ready taken) = ready taken
+no-code (ready sent) = ready sent

@@ -31,7 +31,7 @@ use Rattle.story.proofs.Opening.{steps}
 use Rattle.story.proofs.Time.{isSelecting, still}
 use Rattle.story.proofs.Parts.{theScene, Aimed, before, aimed, Polled, coded, taken, sent, Polls, look, seen, ready, Plays, over, puts, gets, stored-is}
 use Rattle.story.proofs.Queue.{Lined, none-lined, empty-none, empty-some, room-is, waits-is, front-is, fits, popped, pushed}
-use Rattle.story.proofs.Small.{true-or-false, length-snoc, one-less, bytes-tail, next-byte, polls-look, small-address, items-snoc, Quiet, unfixed, drained}
+use Rattle.story.proofs.Small.{true-or-false, length-snoc, one-less, bytes-tail, next-byte, no-bytes, no-code, polls-look, small-address, items-snoc, Quiet, unfixed, drained}
 use Rattle.story.proofs.Stages.{stage-identify, stage-status, stage-data, stage-next, stage-full, size-small, expects-after}
 use Rattle.story.proofs.TransferScenes.{CommandPhase, first, later, Expects, body, late, Set, Ready, Spared, Hands, reads, writes, Tale, Coming, Going, Left, some, none, Finals, finalNotes, Closes, reading, resting, Reach, loads, seeks, greets, commands, comes, goes, statuses, ends, told, calm, gone, rests}
 
@@ -108,14 +108,6 @@ module _ (j : Job) (pr : Proper j) where
   none-read : incomingData (j .way) (j .moved) ≡ [] → [] ≡ items DataIn (incomingData (j .way) (j .moved))
   none-read e = rw e
 
-  -- a host that looks, or is at a data byte, does so with INT as well
-  no-code : {l : List Access} {f : Bool} {a : ℕ} → Polls false l f a → Polls true l f a
-  no-code look = look
-  no-code (seen taken) = seen taken
-  no-code (seen sent) = seen sent
-  no-code (ready taken) = ready taken
-  no-code (ready sent) = ready sent
-
   still-closes : {l : List Access} {f : Bool} {a : ℕ} {r : Registers} {n : List Note} → Closes j false l f a r n → Closes j true l f a r n
   still-closes (reading p a) = reading p a
   still-closes (resting p n) = resting (no-code p) n
@@ -126,9 +118,6 @@ module _ (j : Job) (pr : Proper j) where
   first-in : {x : ℕ} {d : List ℕ} → j .way ≡ inward → x ∷ d ≡ j .moved → Coming j [] (x ∷ []) d
   first-in {x} {d} w f =
       record { had = []; read = refl; all = f; bytes = bytes-tail x d (subst (λ (l : List ℕ). Bytes l) (sym f) (pr .moved-bytes)) }
-
-  no-bytes : Bytes []
-  no-bytes = λ k. omega arith
 
   pub bus-step : {c : Scene} → Reach j c → Reach j (bus step (byTransfer j) c)
   unfolding steps phaseOf
