@@ -125,3 +125,228 @@ module _ (j : Job) (whole : List Item) (total : List Note) where
   bus-step (closing k) = closing-bus k
   bus-step (draining k) = draining-bus k
   bus-step (ends k) = ends-bus k
+
+  spared-at : {t u pa : ℕ} → u ≡ t → Spared j whole total t 0 pa → Spared j whole total u 0 pa
+  spared-at {pa = pa} e s = subst (λ (t : ℕ). Spared j whole total t 0 pa) (sym e) s
+
+  good-small : {p : Phase} {bs x : List ℕ} {g : List Seg} → Good j whole total (seg p bs x ∷ g) → countFor j p < 16777216
+  good-small (last h) = omega arith
+  good-small (more f a d g) = f .small
+
+  full-out : {fifo rest x : List ℕ} → Going j whole total fifo rest [] x → ltb (length fifo) (length rest + length x) ≡ false
+  full-out {fifo} {rest} {x} s =
+      le-ltb (length fifo) (length rest + length x) (omega (arith, length-append fifo [], length-append rest x, ap length (s .line)))
+
+  owed-out : {fifo rest give x : List ℕ} {z : ℕ} → Going j whole total fifo rest (z ∷ give) x → ltb (length fifo) (length rest + length x) ≡ true
+  owed-out {fifo} {rest} {give} {x} {z} s =
+      lt-ltb (length fifo) (length rest + length x) (omega (arith, length-append fifo (z ∷ give), length-append rest x, ap length (s .line)))
+
+  one-more : {fifo rest give x : List ℕ} {z : ℕ} → Going j whole total fifo rest (z ∷ give) x → Going j whole total (fifo ++ (z ∷ [])) rest give x
+  one-more {fifo} {rest} {give} {x} {z} s = record { line = append-assoc fifo (z ∷ []) give ∙ s .line; bytes = bytes-tail z give (s .bytes) }
+
+  begins-work : {c : Scene} → Begins j whole total c → R (access step (byPhases j) c)
+  unfolding steps serving
+  begins-work (loads (over g) before q t k n y) = begins (loads (over g) aimed q t k n y)
+  begins-work (loads (over g) aimed q t k n y) = rw (g .none) (begins (seeks look q (spared-at (g .timeout) t) k n y))
+  begins-work (loads (puts {a = a} {b = x} u k p) before q t g n y) = rw (lt-ltb a 256 (omega arith)) (begins (loads (puts u k p) aimed q t g n y))
+  begins-work (loads (puts {a = a} {b = x} u k p) aimed q t g n y) = 
+      rw (lt-ltb x 256 k, lt-leb 0x1A a (omega arith), ne-eqb a 0x17 (omega arith), ne-eqb a 0x18 (omega arith), ne-eqb a 0x19 (omega arith), stored-is) (begins (loads p before q t g n y))
+  begins-work (loads (gets {a = a} u p) before q t g n y) = rw (lt-ltb a 256 (omega arith)) (begins (loads (gets u p) aimed q t g n y))
+  begins-work (loads (gets {a = a} u p) aimed q t g n y) = rw (lt-leb 0x1A a (omega arith), ne-eqb a 0x17 (omega arith), ne-eqb a 0x18 (omega arith), ne-eqb a 0x19 (omega arith)) (begins (loads p before q t g n y))
+  begins-work (seeks look q t g n y) = begins (seeks (polls-look _ _ _ _ _ _ _) q t g n y)
+  begins-work (seeks (seen k) q t g n y) = rw (small-address k) (begins (seeks (ready k) q t g n y))
+  begins-work (seeks (ready taken) unfixed t g n y) = begins (seeks look unfixed t g n y)
+  begins-work (seeks (ready sent) unfixed t g n y) = begins (seeks look unfixed t g n y)
+  begins-work (seeks (ready taken) (drained k) t g n y) = rw k (begins (seeks look (drained k) t g n y))
+  begins-work (seeks (ready sent) (drained k) t g n y) = begins (seeks look (drained k) t g n y)
+  begins-work (greets look q g n y) = begins (greets (polls-look _ _ _ _ _ _ _) q g n y)
+  begins-work (greets (seen k) q g n y) = rw (small-address k) (begins (greets (ready k) q g n y))
+  begins-work (greets (ready taken) unfixed g n y) = begins (greets look unfixed g n y)
+  begins-work (greets (ready sent) unfixed g n y) = begins (greets look unfixed g n y)
+  begins-work (greets (ready taken) (drained k) g n y) = rw k (begins (greets look (drained k) g n y))
+  begins-work (greets (ready sent) (drained k) g n y) = begins (greets look (drained k) g n y)
+  begins-work (waits look q g n y) = begins (waits (polls-look _ _ _ _ _ _ _) q g n y)
+  begins-work (waits (seen k) q g n y) = rw (small-address k) (begins (waits (ready k) q g n y))
+  begins-work (waits (ready taken) unfixed g n y) = begins (waits look unfixed g n y)
+  begins-work (waits (ready sent) unfixed g n y) = begins (waits look unfixed g n y)
+  begins-work (waits (ready taken) (drained k) g n y) = rw k (begins (waits look (drained k) g n y))
+  begins-work (waits (ready sent) (drained k) g n y) = begins (waits look (drained k) g n y)
+  begins-work (greets (ready coded) q g n y) = rw (heard-11 j) (begins (waits look q g n y))
+  begins-work (named look q c g v n i y) = begins (named (polls-look _ _ _ _ _ _ _) q c g v n i y)
+  begins-work (named (seen k) q c g v n i y) = rw (small-address k) (begins (named (ready k) q c g v n i y))
+  begins-work (named (ready taken) unfixed c g v n i y) = begins (named look unfixed c g v n i y)
+  begins-work (named {v = vs} (ready sent) unfixed c g v n i y) = rw (next-byte vs v) (begins (named look unfixed c g v n i y))
+  begins-work (named (ready taken) (drained k) c g v n i y) = rw k (begins (named look (drained k) c g v n i y))
+  begins-work (named {v = vs} (ready sent) (drained k) c g v n i y) = rw (next-byte vs v) (begins (named look (drained k) c g v n i y))
+  begins-work (named {c = c} {p = p} {cr = cr} (ready coded) q nm g v n i y) = 
+      rw (heard-named j c p nm) (begins (S.coded (plays-phase _ cr p _ _ (good-small g) n) before q g i y))
+  begins-work (S.coded (over k) before q g i y) = begins (S.coded (over k) aimed q g i y)
+  begins-work (S.coded (over k) aimed q (last h) i y) = 
+      rw (single-info, k .count) (closing (closes look none-lined h no-bytes (k .noting) (heard-at i) y))
+  begins-work (S.coded (over k) aimed q (more {p = p} {b = b} {bs = bs} {x = x} f a d g) i y) = 
+      ⊎-elim
+      (λ e.
+          rw (single-info, e, k .count, f .count, ne-eqb (suc (length bs) + length x) 0 (omega arith))
+          (taking (takes [] (b ∷ bs) x look e none-lined (f .bytes) (f .sent) (next a d g) (k .noting) (heard-at i) y)))
+      (λ e.
+          rw (single-info, e, k .count, f .count, ne-eqb (suc (length bs) + length x) 0 (omega arith))
+          (sending (sends [] (b ∷ bs) (giveFor j p) look e none-lined (record { line = f .hand e; bytes = f .sent }) (next a d g) (k .noting) i y)))
+      (true-or-false (comesIn p))
+  begins-work (S.coded (puts {a = a} {b = x} u k p) before q g i y) = rw (lt-ltb a 256 (omega arith)) (begins (S.coded (puts u k p) aimed q g i y))
+  begins-work (S.coded (puts {a = a} {b = x} u k p) aimed q g i y) = 
+      rw (lt-ltb x 256 k, lt-leb 0x1A a (omega arith), ne-eqb a 0x17 (omega arith), ne-eqb a 0x18 (omega arith), ne-eqb a 0x19 (omega arith), stored-is) (begins (S.coded p before q g i y))
+  begins-work (S.coded (gets {a = a} u p) before q g i y) = rw (lt-ltb a 256 (omega arith)) (begins (S.coded (gets u p) aimed q g i y))
+  begins-work (S.coded (gets {a = a} u p) aimed q g i y) = rw (lt-leb 0x1A a (omega arith), ne-eqb a 0x17 (omega arith), ne-eqb a 0x18 (omega arith), ne-eqb a 0x19 (omega arith)) (begins (S.coded p before q g i y))
+
+  sending-work : {c : Scene} → Sends j whole total c → R (access step (byPhases j) c)
+  unfolding steps serving
+  sending-work (sends fifo rest give look e l s a n i y) = sending (sends fifo rest give (polls-look _ _ _ _ _ _ _) e l s a n i y)
+  sending-work (sends fifo rest give (seen k) e l s a n i y) = rw (small-address k) (sending (sends fifo rest give (ready k) e l s a n i y))
+  sending-work (sends fifo rest give (ready taken) e l s a n i y) = sending (sends fifo rest give look e l s a n i y)
+  sending-work (sends fifo rest [] (ready sent) e l s a n i y) = rw (waits-is l, full-out s) (sending (sends fifo rest [] look e l s a n i y))
+  sending-work (sends fifo rest (z ∷ give) (ready sent) e l s a n i y) = 
+      ⊎-elim
+      (λ r.
+          rw (lt-ltb z 256 (s .bytes 0), waits-is l, owed-out s, room-is l)
+          (rw r (sending (sends (fifo ++ (z ∷ [])) rest give look e (pushed z l (ltb-true _ _ r)) (one-more s) a n i y))))
+      (λ r. rw (lt-ltb z 256 (s .bytes 0), waits-is l, owed-out s, room-is l) (rw r (sending (sends fifo rest (z ∷ give) look e l s a n i y))))
+      (true-or-false (ltb (length fifo) 12))
+
+  taking-work : {c : Scene} → Takes j whole total c → R (access step (byPhases j) c)
+  unfolding steps serving
+  taking-work (takes fifo rest x look e l bs v a n i y) = taking (takes fifo rest x (polls-look _ _ _ _ _ _ _) e l bs v a n i y)
+  taking-work (takes fifo rest x (seen k) e l bs v a n i y) = rw (small-address k) (taking (takes fifo rest x (ready k) e l bs v a n i y))
+  taking-work (takes [] rest x (ready taken) e l bs v a n i y) = rw (empty-none l) (taking (takes [] rest x look e l bs v a n i y))
+  taking-work (takes (b ∷ []) rest x (ready taken) e l bs v a n i y) = 
+      rw (empty-some l, front-is l, empty-none (popped l)) (taking (takes [] rest x look e (popped l) bs v a n (heard-read i) y))
+  taking-work (takes (b ∷ c ∷ fifo) rest x (ready taken) e l bs v a n i y) = 
+      rw (empty-some l, front-is l, empty-some (popped l)) (taking (takes (c ∷ fifo) rest x look e (popped l) bs v a n (heard-read i) y))
+  taking-work (takes {v = vs} fifo rest x (ready sent) e l bs v a n i y) = rw (next-byte vs v) (taking (takes fifo rest x look e l bs v a n i y))
+
+  closing-work : {c : Scene} → Closes j whole total c → R (access step (byPhases j) c)
+  unfolding steps serving
+  closing-work (closes look l h v n i y) = closing (closes (polls-look _ _ _ _ _ _ _) l h v n i y)
+  closing-work (closes (seen k) l h v n i y) = rw (small-address k) (closing (closes (ready k) l h v n i y))
+  closing-work (closes (ready taken) l h v n i y) = rw (empty-none l) (closing (closes look l h v n i y))
+  closing-work (closes {v = vs} (ready sent) l h v n i y) = rw (next-byte vs v) (closing (closes look l h v n i y))
+
+  draining-work : {c : Scene} → Drains j whole total c → R (access step (byPhases j) c)
+  unfolding steps serving
+  draining-work (drains fifo look e l k g v n i y) = draining (drains fifo (polls-look _ _ _ _ _ _ _) e l k g v n i y)
+  draining-work (drains fifo (seen m) e l k g v n i y) = rw (small-address m) (draining (drains fifo (ready m) e l k g v n i y))
+  draining-work (drains [] (ready taken) e l k g v n i y) = 
+      rw (empty-some l, front-is l, empty-none (popped l))
+      (begins (named look (drained (empty-none (popped l))) k g v n (heard-at (heard-read i)) y))
+  draining-work (drains (b ∷ fifo) (ready taken) e l k g v n i y) = 
+      rw (empty-some l, front-is l, empty-some (popped l)) (draining (drains fifo look e (popped l) k g v n (heard-read i) y))
+  draining-work (drains {v = vs} fifo (ready sent) e l k g v n i y) = rw (next-byte vs v) (draining (drains fifo look e l k g v n i y))
+
+  ends-work : {c : Scene} → Ends j whole total c → R (access step (byPhases j) c)
+  unfolding steps serving
+  ends-work (pauses look l v n i y) = ends (pauses (polls-look _ _ _ _ _ _ _) l v n i y)
+  ends-work (pauses (seen k) l v n i y) = rw (small-address k) (ends (pauses (ready k) l v n i y))
+  ends-work (pauses (ready taken) l v n i y) = 
+      rw (empty-some l, front-is l, empty-none (popped l))
+      (ends (paused look (drained (empty-none (popped l))) v n (heard-at (heard-read i)) y))
+  ends-work (pauses {v = vs} (ready sent) l v n i y) = rw (next-byte vs v) (ends (pauses look l v n i y))
+  ends-work (paused look q v n i y) = ends (paused (polls-look _ _ _ _ _ _ _) q v n i y)
+  ends-work (paused (seen k) q v n i y) = rw (small-address k) (ends (paused (ready k) q v n i y))
+  ends-work (paused (ready taken) unfixed v n i y) = ends (paused look unfixed v n i y)
+  ends-work (paused {v = vs} (ready sent) unfixed v n i y) = rw (next-byte vs v) (ends (paused look unfixed v n i y))
+  ends-work (paused (ready taken) (drained k) v n i y) = rw k (ends (paused look (drained k) v n i y))
+  ends-work (paused {v = vs} (ready sent) (drained k) v n i y) = rw (next-byte vs v) (ends (paused look (drained k) v n i y))
+  ends-work (paused (ready coded) q v n i y) = rw (heard-20 j) (ends (S.negates before q v n i y))
+  ends-work (S.negates before q v n i y) = ends (S.negates aimed q v n i y)
+  ends-work (S.negates aimed q v n i y) = ends (calm look q v n i y)
+  ends-work (calm look q v n i y) = ends (calm (polls-look _ _ _ _ _ _ _) q v n i y)
+  ends-work (calm (seen k) q v n i y) = rw (small-address k) (ends (calm (ready k) q v n i y))
+  ends-work (calm (ready taken) unfixed v n i y) = ends (calm look unfixed v n i y)
+  ends-work (calm {v = vs} (ready sent) unfixed v n i y) = rw (next-byte vs v) (ends (calm look unfixed v n i y))
+  ends-work (calm (ready taken) (drained k) v n i y) = rw k (ends (calm look (drained k) v n i y))
+  ends-work (calm {v = vs} (ready sent) (drained k) v n i y) = rw (next-byte vs v) (ends (calm look (drained k) v n i y))
+  ends-work (gone (S.Late.negates before) q v n i y) = ends (gone (S.Late.negates aimed) q v n i y)
+  ends-work (gone (S.Late.negates aimed) q v n i y) = ends (gone (polls look) q v n i y)
+  ends-work (gone (polls look) q v n i y) = ends (gone (polls (polls-look _ _ _ _ _ _ _)) q v n i y)
+  ends-work (gone (polls (seen k)) q v n i y) = rw (small-address k) (ends (gone (polls (ready k)) q v n i y))
+  ends-work (gone (polls (ready taken)) unfixed v n i y) = ends (gone (polls look) unfixed v n i y)
+  ends-work (gone {v = vs} (polls (ready sent)) unfixed v n i y) = rw (next-byte vs v) (ends (gone (polls look) unfixed v n i y))
+  ends-work (gone (polls (ready taken)) (drained k) v n i y) = rw k (ends (gone (polls look) (drained k) v n i y))
+  ends-work (gone {v = vs} (polls (ready sent)) (drained k) v n i y) = rw (next-byte vs v) (ends (gone (polls look) (drained k) v n i y))
+  ends-work (gone (polls (ready coded)) q v n i y) = rw (heard-85 j) (ends (rests look q v n i y))
+  ends-work (rests look q v n i y) = ends (rests (polls-look _ _ _ _ _ _ _) q v n i y)
+  ends-work (rests (seen k) q v n i y) = rw (small-address k) (ends (rests (ready k) q v n i y))
+  ends-work (rests (ready taken) unfixed v n i y) = ends (rests look unfixed v n i y)
+  ends-work (rests {v = vs} (ready sent) unfixed v n i y) = rw (next-byte vs v) (ends (rests look unfixed v n i y))
+  ends-work (rests (ready taken) (drained k) v n i y) = rw k (ends (rests look (drained k) v n i y))
+  ends-work (rests {v = vs} (ready sent) (drained k) v n i y) = rw (next-byte vs v) (ends (rests look (drained k) v n i y))
+
+  pub work-step : {c : Scene} → R c → R (access step (byPhases j) c)
+  work-step (begins k) = begins-work k
+  work-step (sending k) = sending-work k
+  work-step (taking k) = taking-work k
+  work-step (closing k) = closing-work k
+  work-step (draining k) = draining-work k
+  work-step (ends k) = ends-work k
+
+  spare-on : {tm el pa : ℕ} (n : ℕ) → Spared j whole total tm el pa → n < pa → Spared j whole total tm el (pa - n)
+  spare-on {tm} {el} {pa} n t h = ⊎-elim (λ e. record { time = inl e }) (λ e. record { time = inr (omega arith) }) (t .time)
+
+  spare-less : {tm : ℕ} (el pa n : ℕ) → el + pa ≤ tm → n < pa → Spared j whole total tm (el + n) (pa - n)
+  spare-less el pa n e h = record { time = inr (omega arith) }
+
+  unmoved : (n : ℕ) (s : State) (h : Host) (t : Target) (k : Connection) → s .wire .connection ≡ k → isSelecting k ≡ false → R (theScene s h t)
+      → R (passing step (byPhases j) n (theScene s h t))
+  unmoved n s h t k e f r = subst (λ (c : Scene). R c) (sym (still (byPhases j) n s h t k e f)) r
+
+  -- while it is being selected, the Target lets time pass within its patience, or answers
+  pub pass-step : (n : ℕ) {c : Scene} → R c → R (passing step (byPhases j) n c)
+  unfolding steps
+  pass-step n (begins (seeks {pa = pa} {el = el} {tm = tm} p unfixed t g m w)) =
+      ⊎-elim
+      (λ r.
+          ⊎-elim
+          (λ u.
+              ⊎-elim
+              (λ z. rw r (rw u (rw (eq-eqb tm 0 z) (begins (seeks p unfixed (spare-on n t (ltb-true n pa r)) g m w)))))
+              (λ z.
+                  rw r
+                  (rw u
+                  (rw (ne-eqb tm 0 (omega (arith, z, ltb-true n pa r)), lt-leb tm (el + n) (omega (arith, z, ltb-true n pa r)))
+                  (begins (seeks p unfixed (spare-less el pa n z (ltb-true n pa r)) g m w)))))
+              (t .time))
+          (λ u. rw r (rw u (begins (seeks p unfixed (spare-on n t (ltb-true n pa r)) g m w))))
+          (true-or-false (ltb n 256)))
+      (λ r. rw r (begins (greets (no-code p) unfixed g m w)))
+      (true-or-false (ltb n pa))
+  pass-step n (begins (seeks {pa = pa} {el = el} {tm = tm} p (drained k) t g m w)) =
+      ⊎-elim
+      (λ r.
+          ⊎-elim
+          (λ u.
+              ⊎-elim
+              (λ z. rw r (rw u (rw (eq-eqb tm 0 z) (begins (seeks p (drained k) (spare-on n t (ltb-true n pa r)) g m w)))))
+              (λ z.
+                  rw r
+                  (rw u
+                  (rw (ne-eqb tm 0 (omega (arith, z, ltb-true n pa r)), lt-leb tm (el + n) (omega (arith, z, ltb-true n pa r)))
+                  (begins (seeks p (drained k) (spare-less el pa n z (ltb-true n pa r)) g m w)))))
+              (t .time))
+          (λ u. rw r (rw u (begins (seeks p (drained k) (spare-on n t (ltb-true n pa r)) g m w))))
+          (true-or-false (ltb n 256)))
+      (λ r. rw r (begins (greets (no-code p) (drained k) g m w)))
+      (true-or-false (ltb n pa))
+  pass-step m (begins (loads p a q t g n w)) = unmoved m _ _ _ _ refl refl (begins (loads p a q t g n w))
+  pass-step m (begins (greets p q g n w)) = unmoved m _ _ _ _ refl refl (begins (greets p q g n w))
+  pass-step m (begins (waits p q g n w)) = unmoved m _ _ _ _ refl refl (begins (waits p q g n w))
+  pass-step m (begins (named p q k g v n i w)) = unmoved m _ _ _ _ refl refl (begins (named p q k g v n i w))
+  pass-step m (begins (S.coded p a q g i w)) = unmoved m _ _ _ _ refl refl (begins (S.coded p a q g i w))
+  pass-step m (sending (sends fifo rest give p e l s a n i w)) = unmoved m _ _ _ _ refl refl (sending (sends fifo rest give p e l s a n i w))
+  pass-step m (taking (takes fifo rest y p e l bs v a n i w)) = unmoved m _ _ _ _ refl refl (taking (takes fifo rest y p e l bs v a n i w))
+  pass-step m (closing (closes p l h v n i w)) = unmoved m _ _ _ _ refl refl (closing (closes p l h v n i w))
+  pass-step m (draining (drains fifo p e l k g v n i w)) = unmoved m _ _ _ _ refl refl (draining (drains fifo p e l k g v n i w))
+  pass-step m (ends (pauses p l v n i w)) = unmoved m _ _ _ _ refl refl (ends (pauses p l v n i w))
+  pass-step m (ends (paused p q v n i w)) = unmoved m _ _ _ _ refl refl (ends (paused p q v n i w))
+  pass-step m (ends (S.negates a q v n i w)) = unmoved m _ _ _ _ refl refl (ends (S.negates a q v n i w))
+  pass-step m (ends (calm p q v n i w)) = unmoved m _ _ _ _ refl refl (ends (calm p q v n i w))
+  pass-step m (ends (gone a q v n i w)) = unmoved m _ _ _ _ refl refl (ends (gone a q v n i w))
+  pass-step m (ends (rests p q v n i w)) = unmoved m _ _ _ _ refl refl (ends (rests p q v n i w))
