@@ -12,3 +12,4 @@ pub mod TransferServes
 pub mod PhaseScenes
 pub mod PhaseFacts
 pub mod PhaseSteps
+pub mod PhaseServes

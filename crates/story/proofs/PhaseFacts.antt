@@ -184,8 +184,8 @@ module _ {j : Job} {whole : List Item} {total : List Note} where
   three-noted n a b c g t =
       record {
         all =
-          append-assoc ((n ++ (a ∷ [])) ++ (b ∷ [])) (c ∷ []) g
-          ∙ (append-assoc (n ++ (a ∷ [])) (b ∷ []) (c ∷ g) ∙ (append-assoc n (a ∷ []) (b ∷ c ∷ g) ∙ t .all));
+            append-assoc ((n ++ (a ∷ [])) ++ (b ∷ [])) (c ∷ []) g
+            ∙ (append-assoc (n ++ (a ∷ [])) (b ∷ []) (c ∷ g) ∙ (append-assoc n (a ∷ []) (b ∷ c ∷ g) ∙ t .all));
       }
 
   pub plays-phase : (g : List Note) (cr p : Phase) (r : Registers) (n : List Note) → countFor j p < 16777216 → Noting j whole total n (notesOf cr (r .count) ++ g)

@@ -128,8 +128,8 @@ module _ (j : Job) (whole : List Item) (total : List Note) where
         → Noting [] (notesAfter g)
         → Tale [] (flat g)
         → Begins
-          (theScene (theState r (theStatus x c m l e Nothing) q (theTransfer Idle d o) (theWire Disconnected at false rp ls id el))
-          (theHost td f MessageOut [] [] n) (theTarget calling pa [] (flat g)))
+        (theScene (theState r (theStatus x c m l e Nothing) q (theTransfer Idle d o) (theWire Disconnected at false rp ls id el))
+        (theHost td f MessageOut [] [] n) (theTarget calling pa [] (flat g)))
     seeks : {c m x pa el ow ct tm lu ph sy ct2 ds sr : ℕ} {l e at o f : Bool} {q : Fifo} {d : Direction} {rp ls : Noted} {id : Identity}
         {td : List Access} {cd : List ℕ} {g : List Seg}
         → Polls false td f x
@@ -139,9 +139,9 @@ module _ (j : Job) (whole : List Item) (total : List Note) where
         → Noting [] (notesAfter g)
         → Tale [] (flat g)
         → Begins
-          (theScene
-          (theState (theRegisters ow ct tm cd lu ph sy ct2 ds sr) (theStatus x c m l e Nothing) q (theTransfer SelectWithAtn d o)
-          (theWire Selecting at false rp ls id el)) (theHost td f MessageOut [] [] []) (theTarget calling pa [] (flat g)))
+        (theScene
+        (theState (theRegisters ow ct tm cd lu ph sy ct2 ds sr) (theStatus x c m l e Nothing) q (theTransfer SelectWithAtn d o)
+        (theWire Selecting at false rp ls id el)) (theHost td f MessageOut [] [] []) (theTarget calling pa [] (flat g)))
     greets : {m x pa el : ℕ} {l e at o f : Bool} {q : Fifo} {d : Direction} {ls : Noted} {id : Identity} {td : List Access} {r : Registers} {g : List Seg}
         → Polls true td f x
         → Quiet d q
@@ -149,8 +149,8 @@ module _ (j : Job) (whole : List Item) (total : List Note) where
         → Noting [] (notesAfter g)
         → Tale [] (flat g)
         → Begins
-          (theScene (theState r (theStatus x 0x11 m l e Interrupt) q (theTransfer Idle d o) (theWire Connected at false NoPhase ls id el))
-          (theHost td f MessageOut [] [] []) (theTarget talking pa [] (flat g)))
+        (theScene (theState r (theStatus x 0x11 m l e Interrupt) q (theTransfer Idle d o) (theWire Connected at false NoPhase ls id el))
+        (theHost td f MessageOut [] [] []) (theTarget talking pa [] (flat g)))
     waits : {c m x pa el : ℕ} {l e at o f : Bool} {q : Fifo} {d : Direction} {ls : Noted} {id : Identity} {td : List Access} {r : Registers} {g : List Seg}
         → Polls false td f x
         → Quiet d q
@@ -158,8 +158,8 @@ module _ (j : Job) (whole : List Item) (total : List Note) where
         → Noting [] (notesAfter g)
         → Tale [] (flat g)
         → Begins
-          (theScene (theState r (theStatus x c m l e Nothing) q (theTransfer Idle d o) (theWire Connected at false NoPhase ls id el))
-          (theHost td f MessageOut [] [] []) (theTarget talking pa [] (flat g)))
+        (theScene (theState r (theStatus x c m l e Nothing) q (theTransfer Idle d o) (theWire Connected at false NoPhase ls id el))
+        (theHost td f MessageOut [] [] []) (theTarget talking pa [] (flat g)))
     named : {c m x pa el ow ct tm lu ph sy lf ds sr : ℕ} {l e at o f : Bool} {q : Fifo} {d : Direction} {ls : Noted} {id : Identity}
         {td : List Access} {cd v bs y : List ℕ} {g : List Seg} {p cr : Phase} {log got : List Item} {n : List Note}
         → Polls true td f x
@@ -171,9 +171,9 @@ module _ (j : Job) (whole : List Item) (total : List Note) where
         → Heard log got DataIn []
         → Tale log (flat (seg p bs y ∷ g))
         → Begins
-          (theScene
-          (theState (theRegisters ow ct tm cd lu ph sy lf ds sr) (theStatus x c m l e Interrupt) q (theTransfer Idle d o)
-          (theWire Connected at false (Was p) ls id el)) (theHost td f cr v got n) (theTarget talking pa log (flat (seg p bs y ∷ g))))
+        (theScene
+        (theState (theRegisters ow ct tm cd lu ph sy lf ds sr) (theStatus x c m l e Interrupt) q (theTransfer Idle d o)
+        (theWire Connected at false (Was p) ls id el)) (theHost td f cr v got n) (theTarget talking pa log (flat (seg p bs y ∷ g))))
     coded : {c m x pa el : ℕ} {l e at o f : Bool} {q : Fifo} {d : Direction} {ls : Noted} {id : Identity} {td : List Access} {r : Registers}
         {bs y : List ℕ} {g : List Seg} {p : Phase} {log got : List Item} {n : List Note}
         → Plays (put 0x18 0x20 ∷ []) (Counted p (notesAfter (seg p bs y ∷ g))) td r n
@@ -183,8 +183,8 @@ module _ (j : Job) (whole : List Item) (total : List Note) where
         → Heard log got DataIn []
         → Tale log (flat (seg p bs y ∷ g))
         → Begins
-          (theScene (theState r (theStatus x c m l e Nothing) q (theTransfer Idle d o) (theWire Connected at false (Was p) ls id el))
-          (theHost td f p (giveFor j p) got n) (theTarget talking pa log (flat (seg p bs y ∷ g))))
+        (theScene (theState r (theStatus x c m l e Nothing) q (theTransfer Idle d o) (theWire Connected at false (Was p) ls id el))
+        (theHost td f p (giveFor j p) got n) (theTarget talking pa log (flat (seg p bs y ∷ g))))
 
   -- a phase goes out
   pub data Sends : Scene → Type 0 where
@@ -199,9 +199,9 @@ module _ (j : Job) (whole : List Item) (total : List Note) where
         → Heard log got DataIn []
         → Tale log (items p rest ++ flat g)
         → Sends
-          (theScene
-          (theState (theRegisters ow ct tm cd lu ph sy (length rest + length y) ds sr) (theStatus x c m l e Nothing) q (theTransfer TransferInfo Out false)
-          (theWire Connected at false (Was p) ls id el)) (theHost td f p give got n) (theTarget talking pa log (items p rest ++ flat g)))
+        (theScene
+        (theState (theRegisters ow ct tm cd lu ph sy (length rest + length y) ds sr) (theStatus x c m l e Nothing) q (theTransfer TransferInfo Out false)
+        (theWire Connected at false (Was p) ls id el)) (theHost td f p give got n) (theTarget talking pa log (items p rest ++ flat g)))
 
   -- a phase comes in
   pub data Takes : Scene → Type 0 where
@@ -217,9 +217,9 @@ module _ (j : Job) (whole : List Item) (total : List Note) where
         → Heard log got p fifo
         → Tale log (items p rest ++ flat g)
         → Takes
-          (theScene
-          (theState (theRegisters ow ct tm cd lu ph sy (length rest + length y) ds sr) (theStatus x c m l e Nothing) q (theTransfer TransferInfo In false)
-          (theWire Connected at false (Was p) ls id el)) (theHost td f p v got n) (theTarget talking pa log (items p rest ++ flat g)))
+        (theScene
+        (theState (theRegisters ow ct tm cd lu ph sy (length rest + length y) ds sr) (theStatus x c m l e Nothing) q (theTransfer TransferInfo In false)
+        (theWire Connected at false (Was p) ls id el)) (theHost td f p v got n) (theTarget talking pa log (items p rest ++ flat g)))
 
   -- the last byte is to come
   pub data Closes : Scene → Type 0 where
@@ -233,9 +233,9 @@ module _ (j : Job) (whole : List Item) (total : List Note) where
         → Heard log got MessageIn []
         → Tale log (item MessageIn b ∷ [])
         → Closes
-          (theScene
-          (theState (theRegisters ow ct tm cd lu ph sy 1 ds sr) (theStatus x c m l e Nothing) q (theTransfer TransferInfo In false)
-          (theWire Connected at false (Was MessageIn) ls id el)) (theHost td f MessageIn v got n) (theTarget talking pa log (item MessageIn b ∷ [])))
+        (theScene
+        (theState (theRegisters ow ct tm cd lu ph sy 1 ds sr) (theStatus x c m l e Nothing) q (theTransfer TransferInfo In false)
+        (theWire Connected at false (Was MessageIn) ls id el)) (theHost td f MessageIn v got n) (theTarget talking pa log (item MessageIn b ∷ [])))
 
   -- another phase waits until the bytes are read out
   pub data Drains : Scene → Type 0 where
@@ -251,9 +251,9 @@ module _ (j : Job) (whole : List Item) (total : List Note) where
         → Heard log got cr (b ∷ fifo)
         → Tale log (flat (seg p bs y ∷ g))
         → Drains
-          (theScene
-          (theState (theRegisters ow ct tm cd lu ph sy lf ds sr) (theStatus x c m l e (Ending k)) q (theTransfer TransferInfo In o)
-          (theWire Connected at false (Was p) ls id el)) (theHost td f cr v got n) (theTarget talking pa log (flat (seg p bs y ∷ g))))
+        (theScene
+        (theState (theRegisters ow ct tm cd lu ph sy lf ds sr) (theStatus x c m l e (Ending k)) q (theTransfer TransferInfo In o)
+        (theWire Connected at false (Was p) ls id el)) (theHost td f cr v got n) (theTarget talking pa log (flat (seg p bs y ∷ g))))
 
   -- Message In is over
   pub data Ends : Scene → Type 0 where
@@ -266,9 +266,9 @@ module _ (j : Job) (whole : List Item) (total : List Note) where
         → Heard log got MessageIn (b ∷ [])
         → Tale log []
         → Ends
-          (theScene
-          (theState r (theStatus x c m l e (Ending 0x20)) q (theTransfer TransferInfo In o) (theWire Connected at true rp ls id el))
-          (theHost td f MessageIn v got n) (theTarget talking pa log []))
+        (theScene
+        (theState r (theStatus x c m l e (Ending 0x20)) q (theTransfer TransferInfo In o) (theWire Connected at true rp ls id el))
+        (theHost td f MessageIn v got n) (theTarget talking pa log []))
     paused : {m x pa el : ℕ} {l e at o f : Bool} {q : Fifo} {d : Direction} {rp ls : Noted} {id : Identity} {td : List Access} {r : Registers} {v : List ℕ}
         {log got : List Item} {n : List Note} {hp : Phase}
         → Polls true td f x
@@ -278,9 +278,9 @@ module _ (j : Job) (whole : List Item) (total : List Note) where
         → Heard log got DataIn []
         → Tale log []
         → Ends
-          (theScene
-          (theState r (theStatus x 0x20 m l e Interrupt) q (theTransfer Idle d o) (theWire Connected at true rp ls id el)) (theHost td f hp v got n)
-          (theTarget talking pa log []))
+        (theScene
+        (theState r (theStatus x 0x20 m l e Interrupt) q (theTransfer Idle d o) (theWire Connected at true rp ls id el)) (theHost td f hp v got n)
+        (theTarget talking pa log []))
     negates : {c m x pa el : ℕ} {l e at o f : Bool} {q : Fifo} {d : Direction} {rp ls : Noted} {id : Identity} {r : Registers} {v : List ℕ}
         {log got : List Item} {n : List Note} {hp : Phase}
         → Aimed (put 0x18 0x03 ∷ []) f x
@@ -290,9 +290,9 @@ module _ (j : Job) (whole : List Item) (total : List Note) where
         → Heard log got DataIn []
         → Tale log []
         → Ends
-          (theScene
-          (theState r (theStatus x c m l e Nothing) q (theTransfer Idle d o) (theWire Connected at true rp ls id el))
-          (theHost (put 0x18 0x03 ∷ []) f hp v got n) (theTarget talking pa log []))
+        (theScene
+        (theState r (theStatus x c m l e Nothing) q (theTransfer Idle d o) (theWire Connected at true rp ls id el))
+        (theHost (put 0x18 0x03 ∷ []) f hp v got n) (theTarget talking pa log []))
     calm : {c m x pa el : ℕ} {l e at o f : Bool} {q : Fifo} {d : Direction} {rp ls : Noted} {id : Identity} {td : List Access} {r : Registers} {v : List ℕ}
         {log got : List Item} {n : List Note} {hp : Phase}
         → Polls false td f x
@@ -302,9 +302,9 @@ module _ (j : Job) (whole : List Item) (total : List Note) where
         → Heard log got DataIn []
         → Tale log []
         → Ends
-          (theScene
-          (theState r (theStatus x c m l e Nothing) q (theTransfer Idle d o) (theWire Connected at false rp ls id el)) (theHost td f hp v got n)
-          (theTarget talking pa log []))
+        (theScene
+        (theState r (theStatus x c m l e Nothing) q (theTransfer Idle d o) (theWire Connected at false rp ls id el)) (theHost td f hp v got n)
+        (theTarget talking pa log []))
     gone : {m x pa el : ℕ} {l e at o f : Bool} {q : Fifo} {d : Direction} {rp ls : Noted} {id : Identity} {td : List Access} {r : Registers} {v : List ℕ}
         {log got : List Item} {n : List Note} {hp : Phase}
         → Late td f x
@@ -314,9 +314,9 @@ module _ (j : Job) (whole : List Item) (total : List Note) where
         → Heard log got DataIn []
         → Tale log []
         → Ends
-          (theScene
-          (theState r (theStatus x 0x85 m l e Interrupt) q (theTransfer Idle d o) (theWire Disconnected at false rp ls id el)) (theHost td f hp v got n)
-          (theTarget away pa log []))
+        (theScene
+        (theState r (theStatus x 0x85 m l e Interrupt) q (theTransfer Idle d o) (theWire Disconnected at false rp ls id el)) (theHost td f hp v got n)
+        (theTarget away pa log []))
     rests : {c m x pa el : ℕ} {l e at o f : Bool} {q : Fifo} {d : Direction} {rp ls : Noted} {id : Identity} {td : List Access} {r : Registers} {v : List ℕ}
         {log got : List Item} {n : List Note} {hp : Phase}
         → Polls false td f x
@@ -326,9 +326,9 @@ module _ (j : Job) (whole : List Item) (total : List Note) where
         → Heard log got DataIn []
         → Tale log []
         → Ends
-          (theScene
-          (theState r (theStatus x c m l e Nothing) q (theTransfer Idle d o) (theWire Disconnected at false rp ls id el)) (theHost td f hp v got n)
-          (theTarget away pa log []))
+        (theScene
+        (theState r (theStatus x c m l e Nothing) q (theTransfer Idle d o) (theWire Disconnected at false rp ls id el)) (theHost td f hp v got n)
+        (theTarget away pa log []))
 
   pub data Reach (c : Scene) : Type 0 where
     begins : Begins c → Reach c

@@ -46,65 +46,82 @@ module _ (j : Job) (whole : List Item) (total : List Note) where
   begins-bus (seeks p (drained k) t g n w) = begins (greets (no-code p) (drained k) g n w)
   begins-bus (greets p q (last h) n w) = rw (lt-ltb _ 256 h) (begins (greets p q (last h) n w))
   begins-bus (greets p q (more {p = ph} {b = x} f a d g) n w) = rw (phase-small ph, shown-byte (comesIn ph) x (f .bytes 0)) (begins (greets p q (more f a d g) n w))
-  begins-bus (waits p unfixed (last h) n w) = 
+  begins-bus (waits p unfixed (last h) n w) =
       rw (lt-ltb _ 256 h, phase-round MessageIn) (begins (named (no-code p) unfixed asked (last h) no-bytes n (record { same = refl }) w))
-  begins-bus (waits p unfixed (more {p = ph} {b = x} f a d g) n w) = 
+  begins-bus (waits p unfixed (more {p = ph} {b = x} f a d g) n w) =
       rw (phase-small ph, shown-byte (comesIn ph) x (f .bytes 0), phase-round ph) (begins (named (no-code p) unfixed asked (more f a d g) no-bytes n (record { same = refl }) w))
-  begins-bus (waits p (drained k) (last h) n w) = 
+  begins-bus (waits p (drained k) (last h) n w) =
       rw (lt-ltb _ 256 h, phase-round MessageIn) (begins (named (no-code p) (drained k) asked (last h) no-bytes n (record { same = refl }) w))
-  begins-bus (waits p (drained k) (more {p = ph} {b = x} f a d g) n w) = 
+  begins-bus (waits p (drained k) (more {p = ph} {b = x} f a d g) n w) =
       rw (phase-small ph, shown-byte (comesIn ph) x (f .bytes 0), phase-round ph) (begins (named (no-code p) (drained k) asked (more f a d g) no-bytes n (record { same = refl }) w))
   begins-bus (named p q k (last h) v n i w) = rw (lt-ltb _ 256 h, phase-round MessageIn) (begins (named p q k (last h) v n i w))
-  begins-bus (named p q k (more {p = ph} {b = x} f a d g) v n i w) = 
+  begins-bus (named p q k (more {p = ph} {b = x} f a d g) v n i w) =
       rw (phase-small ph, shown-byte (comesIn ph) x (f .bytes 0), phase-round ph, same-phase ph) (begins (named p q k (more f a d g) v n i w))
   begins-bus (S.coded p a q (last h) i w) = rw (lt-ltb _ 256 h, phase-round MessageIn) (begins (S.coded p a q (last h) i w))
-  begins-bus (S.coded p a q (more {p = ph} {b = x} f z d g) i w) = 
+  begins-bus (S.coded p a q (more {p = ph} {b = x} f z d g) i w) =
       rw (phase-small ph, shown-byte (comesIn ph) x (f .bytes 0), phase-round ph, same-phase ph) (begins (S.coded p a q (more f z d g) i w))
 
   sending-bus : {c : Scene} → Sends j whole total c → R (bus step (byPhases j) c)
   unfolding steps
-  sending-bus (sends {y = y} {p = ph} [] (x ∷ rest) give p e l s a n i w) = 
+  sending-bus (sends {y = y} {p = ph} [] (x ∷ rest) give p e l s a n i w) =
       rw (phase-small ph, phase-round ph, e, same-phase ph, ne-eqb (suc (length rest) + length y) 0 (omega arith), empty-none l)
       (sending (sends [] (x ∷ rest) give p e l s a n i w))
-  sending-bus (sends {y = y} {p = ph} (z ∷ fifo) (x ∷ rest) give p e l s a n i w) = 
-      rw
-      ( phase-small ph, phase-round ph, e, same-phase ph, ne-eqb (suc (length rest) + length y) 0 (omega arith), empty-some l, front-is l, one-out s .0
-      , one-less (length rest) (length y))
+  sending-bus (sends {y = y} {p = ph} (z ∷ fifo) (x ∷ rest) give p e l s a n i w) =
+      rw (
+        phase-small ph,
+        phase-round ph,
+        e,
+        same-phase ph,
+        ne-eqb (suc (length rest) + length y) 0 (omega arith),
+        empty-some l,
+        front-is l,
+        one-out s .0,
+        one-less (length rest) (length y),
+      )
       (sending (sends fifo rest give p e (popped l) (one-out s .1) a n (heard-out ph x e i) (onto w)))
-  sending-bus (sends {y = y} {p = ph} fifo [] give p e l s (next {q = q} {c = c} {cs = cs} {y = y′} {gs = gs} z d g) n i w) = 
+  sending-bus (sends {y = y} {p = ph} fifo [] give p e l s (next {q = q} {c = c} {cs = cs} {y = y′} {gs = gs} z d g) n i w) =
       rw (phase-small q, shown-byte (comesIn q) c (good-byte g), phase-round q, d)
       (begins (named (no-code p) unfixed (S.over (eqb (0 + length y) 0)) g (s .bytes) (noting-on (seg q (c ∷ cs) y′ ∷ gs) ph (length y) n) i w))
 
   taking-bus : {c : Scene} → Takes j whole total c → R (bus step (byPhases j) c)
   unfolding steps
-  taking-bus (takes {p = ph} [] [] y p e l bs v (next {q = q} {c = c} {cs = cs} {y = y′} {gs = gs} z d g) n i w) = 
+  taking-bus (takes {p = ph} [] [] y p e l bs v (next {q = q} {c = c} {cs = cs} {y = y′} {gs = gs} z d g) n i w) =
       rw (phase-small q, shown-byte (comesIn q) c (good-byte g), phase-round q, d, empty-none l)
       (begins (named (no-code p) (drained (empty-none l)) (S.over (eqb (0 + length y) 0)) g v (noting-on (seg q (c ∷ cs) y′ ∷ gs) ph (length y) n) (heard-at i) w))
-  taking-bus (takes {p = ph} (x ∷ fifo) [] y p e l bs v (next {q = q} {c = c} {cs = cs} {y = y′} {gs = gs} z d g) n i w) = 
+  taking-bus (takes {p = ph} (x ∷ fifo) [] y p e l bs v (next {q = q} {c = c} {cs = cs} {y = y′} {gs = gs} z d g) n i w) =
       rw (phase-small q, shown-byte (comesIn q) c (good-byte g), phase-round q, d, empty-some l)
       (draining (drains fifo p e l (S.over (eqb (0 + length y) 0)) g v (noting-on (seg q (c ∷ cs) y′ ∷ gs) ph (length y) n) i w))
-  taking-bus (takes {p = ph} fifo (x ∷ rest) y p e l bs v (next {q = q} z d g) n i w) = 
+  taking-bus (takes {p = ph} fifo (x ∷ rest) y p e l bs v (next {q = q} z d g) n i w) =
       ⊎-elim
       (λ r.
-          rw
-          ( phase-small ph, phase-round ph, e, lt-ltb x 256 (bs 0), same-phase ph, ne-eqb (suc (length rest) + length y) 0 (omega arith), room-is l, r, z
-          , one-less (length rest) (length y))
-          (taking (takes (fifo ++ (x ∷ [])) rest y p e (pushed x l (ltb-true _ _ r)) (bytes-tail x rest bs) v (next z d g) n (heard-in ph x fifo e i) (onto w))))
+      rw (
+        phase-small ph,
+        phase-round ph,
+        e,
+        lt-ltb x 256 (bs 0),
+        same-phase ph,
+        ne-eqb (suc (length rest) + length y) 0 (omega arith),
+        room-is l,
+        r,
+        z,
+        one-less (length rest) (length y),
+      )
+      (taking (takes (fifo ++ (x ∷ [])) rest y p e (pushed x l (ltb-true _ _ r)) (bytes-tail x rest bs) v (next z d g) n (heard-in ph x fifo e i) (onto w))))
       (λ r.
-          rw (phase-small ph, phase-round ph, e, lt-ltb x 256 (bs 0), same-phase ph, ne-eqb (suc (length rest) + length y) 0 (omega arith), room-is l, r)
-          (taking (takes fifo (x ∷ rest) y p e l bs v (next z d g) n i w)))
+      rw (phase-small ph, phase-round ph, e, lt-ltb x 256 (bs 0), same-phase ph, ne-eqb (suc (length rest) + length y) 0 (omega arith), room-is l, r)
+      (taking (takes fifo (x ∷ rest) y p e l bs v (next z d g) n i w)))
       (true-or-false (ltb (length fifo) 12))
 
   closing-bus : {c : Scene} → Closes j whole total c → R (bus step (byPhases j) c)
   unfolding steps
-  closing-bus (closes {b = x} p l h v n i w) = 
+  closing-bus (closes {b = x} p l h v n i w) =
       rw (lt-ltb x 256 h, phase-round MessageIn, room-is l, empty-some (pushed x l (omega arith)))
       (ends (pauses p (pushed x l (omega arith)) v n (heard-in MessageIn x [] refl i) (onto w)))
 
   draining-bus : {c : Scene} → Drains j whole total c → R (bus step (byPhases j) c)
   unfolding steps
   draining-bus (drains fifo p e l k (last h) v n i w) = rw (lt-ltb _ 256 h) (draining (drains fifo p e l k (last h) v n i w))
-  draining-bus (drains fifo p e l k (more {p = ph} {b = x} f a d g) v n i w) = 
+  draining-bus (drains fifo p e l k (more {p = ph} {b = x} f a d g) v n i w) =
       rw (phase-small ph, shown-byte (comesIn ph) x (f .bytes 0)) (draining (drains fifo p e l k (more f a d g) v n i w))
 
   ends-bus : {c : Scene} → Ends j whole total c → R (bus step (byPhases j) c)
@@ -129,7 +146,7 @@ module _ (j : Job) (whole : List Item) (total : List Note) where
   spared-at : {t u pa : ℕ} → u ≡ t → Spared j whole total t 0 pa → Spared j whole total u 0 pa
   spared-at {pa = pa} e s = subst (λ (t : ℕ). Spared j whole total t 0 pa) (sym e) s
 
-  good-small : {p : Phase} {bs x : List ℕ} {g : List Seg} → Good j whole total (seg p bs x ∷ g) → countFor j p < 16777216
+  pub good-small : {p : Phase} {bs x : List ℕ} {g : List Seg} → Good j whole total (seg p bs x ∷ g) → countFor j p < 16777216
   good-small (last h) = omega arith
   good-small (more f a d g) = f .small
 
@@ -137,7 +154,7 @@ module _ (j : Job) (whole : List Item) (total : List Note) where
   full-out {fifo} {rest} {x} s =
       le-ltb (length fifo) (length rest + length x) (omega (arith, length-append fifo [], length-append rest x, ap length (s .line)))
 
-  owed-out : {fifo rest give x : List ℕ} {z : ℕ} → Going j whole total fifo rest (z ∷ give) x → ltb (length fifo) (length rest + length x) ≡ true
+  pub owed-out : {fifo rest give x : List ℕ} {z : ℕ} → Going j whole total fifo rest (z ∷ give) x → ltb (length fifo) (length rest + length x) ≡ true
   owed-out {fifo} {rest} {give} {x} {z} s =
       lt-ltb (length fifo) (length rest + length x) (omega (arith, length-append fifo (z ∷ give), length-append rest x, ap length (s .line)))
 
@@ -149,7 +166,7 @@ module _ (j : Job) (whole : List Item) (total : List Note) where
   begins-work (loads (over g) before q t k n y) = begins (loads (over g) aimed q t k n y)
   begins-work (loads (over g) aimed q t k n y) = rw (g .none) (begins (seeks look q (spared-at (g .timeout) t) k n y))
   begins-work (loads (puts {a = a} {b = x} u k p) before q t g n y) = rw (lt-ltb a 256 (omega arith)) (begins (loads (puts u k p) aimed q t g n y))
-  begins-work (loads (puts {a = a} {b = x} u k p) aimed q t g n y) = 
+  begins-work (loads (puts {a = a} {b = x} u k p) aimed q t g n y) =
       rw (lt-ltb x 256 k, lt-leb 0x1A a (omega arith), ne-eqb a 0x17 (omega arith), ne-eqb a 0x18 (omega arith), ne-eqb a 0x19 (omega arith), stored-is) (begins (loads p before q t g n y))
   begins-work (loads (gets {a = a} u p) before q t g n y) = rw (lt-ltb a 256 (omega arith)) (begins (loads (gets u p) aimed q t g n y))
   begins-work (loads (gets {a = a} u p) aimed q t g n y) = rw (lt-leb 0x1A a (omega arith), ne-eqb a 0x17 (omega arith), ne-eqb a 0x18 (omega arith), ne-eqb a 0x19 (omega arith)) (begins (loads p before q t g n y))
@@ -178,22 +195,22 @@ module _ (j : Job) (whole : List Item) (total : List Note) where
   begins-work (named {v = vs} (ready sent) unfixed c g v n i y) = rw (next-byte vs v) (begins (named look unfixed c g v n i y))
   begins-work (named (ready taken) (drained k) c g v n i y) = rw k (begins (named look (drained k) c g v n i y))
   begins-work (named {v = vs} (ready sent) (drained k) c g v n i y) = rw (next-byte vs v) (begins (named look (drained k) c g v n i y))
-  begins-work (named {c = c} {p = p} {cr = cr} (ready coded) q nm g v n i y) = 
+  begins-work (named {c = c} {p = p} {cr = cr} (ready coded) q nm g v n i y) =
       rw (heard-named j c p nm) (begins (S.coded (plays-phase _ cr p _ _ (good-small g) n) before q g i y))
   begins-work (S.coded (over k) before q g i y) = begins (S.coded (over k) aimed q g i y)
-  begins-work (S.coded (over k) aimed q (last h) i y) = 
+  begins-work (S.coded (over k) aimed q (last h) i y) =
       rw (single-info, k .count) (closing (closes look none-lined h no-bytes (k .noting) (heard-at i) y))
-  begins-work (S.coded (over k) aimed q (more {p = p} {b = b} {bs = bs} {x = x} f a d g) i y) = 
+  begins-work (S.coded (over k) aimed q (more {p = p} {b = b} {bs = bs} {x = x} f a d g) i y) =
       ⊎-elim
       (λ e.
-          rw (single-info, e, k .count, f .count, ne-eqb (suc (length bs) + length x) 0 (omega arith))
-          (taking (takes [] (b ∷ bs) x look e none-lined (f .bytes) (f .sent) (next a d g) (k .noting) (heard-at i) y)))
+      rw (single-info, e, k .count, f .count, ne-eqb (suc (length bs) + length x) 0 (omega arith))
+      (taking (takes [] (b ∷ bs) x look e none-lined (f .bytes) (f .sent) (next a d g) (k .noting) (heard-at i) y)))
       (λ e.
-          rw (single-info, e, k .count, f .count, ne-eqb (suc (length bs) + length x) 0 (omega arith))
-          (sending (sends [] (b ∷ bs) (giveFor j p) look e none-lined (record { line = f .hand e; bytes = f .sent }) (next a d g) (k .noting) i y)))
+      rw (single-info, e, k .count, f .count, ne-eqb (suc (length bs) + length x) 0 (omega arith))
+      (sending (sends [] (b ∷ bs) (giveFor j p) look e none-lined (record { line = f .hand e; bytes = f .sent }) (next a d g) (k .noting) i y)))
       (true-or-false (comesIn p))
   begins-work (S.coded (puts {a = a} {b = x} u k p) before q g i y) = rw (lt-ltb a 256 (omega arith)) (begins (S.coded (puts u k p) aimed q g i y))
-  begins-work (S.coded (puts {a = a} {b = x} u k p) aimed q g i y) = 
+  begins-work (S.coded (puts {a = a} {b = x} u k p) aimed q g i y) =
       rw (lt-ltb x 256 k, lt-leb 0x1A a (omega arith), ne-eqb a 0x17 (omega arith), ne-eqb a 0x18 (omega arith), ne-eqb a 0x19 (omega arith), stored-is) (begins (S.coded p before q g i y))
   begins-work (S.coded (gets {a = a} u p) before q g i y) = rw (lt-ltb a 256 (omega arith)) (begins (S.coded (gets u p) aimed q g i y))
   begins-work (S.coded (gets {a = a} u p) aimed q g i y) = rw (lt-leb 0x1A a (omega arith), ne-eqb a 0x17 (omega arith), ne-eqb a 0x18 (omega arith), ne-eqb a 0x19 (omega arith)) (begins (S.coded p before q g i y))
@@ -204,11 +221,11 @@ module _ (j : Job) (whole : List Item) (total : List Note) where
   sending-work (sends fifo rest give (seen k) e l s a n i y) = rw (small-address k) (sending (sends fifo rest give (ready k) e l s a n i y))
   sending-work (sends fifo rest give (ready taken) e l s a n i y) = sending (sends fifo rest give look e l s a n i y)
   sending-work (sends fifo rest [] (ready sent) e l s a n i y) = rw (waits-is l, full-out s) (sending (sends fifo rest [] look e l s a n i y))
-  sending-work (sends fifo rest (z ∷ give) (ready sent) e l s a n i y) = 
+  sending-work (sends fifo rest (z ∷ give) (ready sent) e l s a n i y) =
       ⊎-elim
       (λ r.
-          rw (lt-ltb z 256 (s .bytes 0), waits-is l, owed-out s, room-is l)
-          (rw r (sending (sends (fifo ++ (z ∷ [])) rest give look e (pushed z l (ltb-true _ _ r)) (one-more s) a n i y))))
+      rw (lt-ltb z 256 (s .bytes 0), waits-is l, owed-out s, room-is l)
+      (rw r (sending (sends (fifo ++ (z ∷ [])) rest give look e (pushed z l (ltb-true _ _ r)) (one-more s) a n i y))))
       (λ r. rw (lt-ltb z 256 (s .bytes 0), waits-is l, owed-out s, room-is l) (rw r (sending (sends fifo rest (z ∷ give) look e l s a n i y))))
       (true-or-false (ltb (length fifo) 12))
 
@@ -217,9 +234,9 @@ module _ (j : Job) (whole : List Item) (total : List Note) where
   taking-work (takes fifo rest x look e l bs v a n i y) = taking (takes fifo rest x (polls-look _ _ _ _ _ _ _) e l bs v a n i y)
   taking-work (takes fifo rest x (seen k) e l bs v a n i y) = rw (small-address k) (taking (takes fifo rest x (ready k) e l bs v a n i y))
   taking-work (takes [] rest x (ready taken) e l bs v a n i y) = rw (empty-none l) (taking (takes [] rest x look e l bs v a n i y))
-  taking-work (takes (b ∷ []) rest x (ready taken) e l bs v a n i y) = 
+  taking-work (takes (b ∷ []) rest x (ready taken) e l bs v a n i y) =
       rw (empty-some l, front-is l, empty-none (popped l)) (taking (takes [] rest x look e (popped l) bs v a n (heard-read i) y))
-  taking-work (takes (b ∷ c ∷ fifo) rest x (ready taken) e l bs v a n i y) = 
+  taking-work (takes (b ∷ c ∷ fifo) rest x (ready taken) e l bs v a n i y) =
       rw (empty-some l, front-is l, empty-some (popped l)) (taking (takes (c ∷ fifo) rest x look e (popped l) bs v a n (heard-read i) y))
   taking-work (takes {v = vs} fifo rest x (ready sent) e l bs v a n i y) = rw (next-byte vs v) (taking (takes fifo rest x look e l bs v a n i y))
 
@@ -234,10 +251,10 @@ module _ (j : Job) (whole : List Item) (total : List Note) where
   unfolding steps serving
   draining-work (drains fifo look e l k g v n i y) = draining (drains fifo (polls-look _ _ _ _ _ _ _) e l k g v n i y)
   draining-work (drains fifo (seen m) e l k g v n i y) = rw (small-address m) (draining (drains fifo (ready m) e l k g v n i y))
-  draining-work (drains [] (ready taken) e l k g v n i y) = 
+  draining-work (drains [] (ready taken) e l k g v n i y) =
       rw (empty-some l, front-is l, empty-none (popped l))
       (begins (named look (drained (empty-none (popped l))) k g v n (heard-at (heard-read i)) y))
-  draining-work (drains (b ∷ fifo) (ready taken) e l k g v n i y) = 
+  draining-work (drains (b ∷ fifo) (ready taken) e l k g v n i y) =
       rw (empty-some l, front-is l, empty-some (popped l)) (draining (drains fifo look e (popped l) k g v n (heard-read i) y))
   draining-work (drains {v = vs} fifo (ready sent) e l k g v n i y) = rw (next-byte vs v) (draining (drains fifo look e l k g v n i y))
 
@@ -245,7 +262,7 @@ module _ (j : Job) (whole : List Item) (total : List Note) where
   unfolding steps serving
   ends-work (pauses look l v n i y) = ends (pauses (polls-look _ _ _ _ _ _ _) l v n i y)
   ends-work (pauses (seen k) l v n i y) = rw (small-address k) (ends (pauses (ready k) l v n i y))
-  ends-work (pauses (ready taken) l v n i y) = 
+  ends-work (pauses (ready taken) l v n i y) =
       rw (empty-some l, front-is l, empty-none (popped l))
       (ends (paused look (drained (empty-none (popped l))) v n (heard-at (heard-read i)) y))
   ends-work (pauses {v = vs} (ready sent) l v n i y) = rw (next-byte vs v) (ends (pauses look l v n i y))
@@ -304,35 +321,35 @@ module _ (j : Job) (whole : List Item) (total : List Note) where
   pass-step n (begins (seeks {pa = pa} {el = el} {tm = tm} p unfixed t g m w)) =
       ⊎-elim
       (λ r.
-          ⊎-elim
-          (λ u.
-              ⊎-elim
-              (λ z. rw r (rw u (rw (eq-eqb tm 0 z) (begins (seeks p unfixed (spare-on n t (ltb-true n pa r)) g m w)))))
-              (λ z.
-                  rw r
-                  (rw u
-                  (rw (ne-eqb tm 0 (omega (arith, z, ltb-true n pa r)), lt-leb tm (el + n) (omega (arith, z, ltb-true n pa r)))
-                  (begins (seeks p unfixed (spare-less el pa n z (ltb-true n pa r)) g m w)))))
-              (t .time))
-          (λ u. rw r (rw u (begins (seeks p unfixed (spare-on n t (ltb-true n pa r)) g m w))))
-          (true-or-false (ltb n 256)))
+      ⊎-elim
+      (λ u.
+      ⊎-elim
+      (λ z. rw r (rw u (rw (eq-eqb tm 0 z) (begins (seeks p unfixed (spare-on n t (ltb-true n pa r)) g m w)))))
+      (λ z.
+      rw r
+      (rw u
+      (rw (ne-eqb tm 0 (omega (arith, z, ltb-true n pa r)), lt-leb tm (el + n) (omega (arith, z, ltb-true n pa r)))
+      (begins (seeks p unfixed (spare-less el pa n z (ltb-true n pa r)) g m w)))))
+      (t .time))
+      (λ u. rw r (rw u (begins (seeks p unfixed (spare-on n t (ltb-true n pa r)) g m w))))
+      (true-or-false (ltb n 256)))
       (λ r. rw r (begins (greets (no-code p) unfixed g m w)))
       (true-or-false (ltb n pa))
   pass-step n (begins (seeks {pa = pa} {el = el} {tm = tm} p (drained k) t g m w)) =
       ⊎-elim
       (λ r.
-          ⊎-elim
-          (λ u.
-              ⊎-elim
-              (λ z. rw r (rw u (rw (eq-eqb tm 0 z) (begins (seeks p (drained k) (spare-on n t (ltb-true n pa r)) g m w)))))
-              (λ z.
-                  rw r
-                  (rw u
-                  (rw (ne-eqb tm 0 (omega (arith, z, ltb-true n pa r)), lt-leb tm (el + n) (omega (arith, z, ltb-true n pa r)))
-                  (begins (seeks p (drained k) (spare-less el pa n z (ltb-true n pa r)) g m w)))))
-              (t .time))
-          (λ u. rw r (rw u (begins (seeks p (drained k) (spare-on n t (ltb-true n pa r)) g m w))))
-          (true-or-false (ltb n 256)))
+      ⊎-elim
+      (λ u.
+      ⊎-elim
+      (λ z. rw r (rw u (rw (eq-eqb tm 0 z) (begins (seeks p (drained k) (spare-on n t (ltb-true n pa r)) g m w)))))
+      (λ z.
+      rw r
+      (rw u
+      (rw (ne-eqb tm 0 (omega (arith, z, ltb-true n pa r)), lt-leb tm (el + n) (omega (arith, z, ltb-true n pa r)))
+      (begins (seeks p (drained k) (spare-less el pa n z (ltb-true n pa r)) g m w)))))
+      (t .time))
+      (λ u. rw r (rw u (begins (seeks p (drained k) (spare-on n t (ltb-true n pa r)) g m w))))
+      (true-or-false (ltb n 256)))
       (λ r. rw r (begins (greets (no-code p) (drained k) g m w)))
       (true-or-false (ltb n pa))
   pass-step m (begins (loads p a q t g n w)) = unmoved m _ _ _ _ refl refl (begins (loads p a q t g n w))
