@@ -13,3 +13,4 @@ pub mod PhaseScenes
 pub mod PhaseFacts
 pub mod PhaseSteps
 pub mod PhaseServes
+pub mod PhasePromise
