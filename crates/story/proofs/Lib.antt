@@ -14,3 +14,6 @@ pub mod PhaseFacts
 pub mod PhaseSteps
 pub mod PhaseServes
 pub mod PhasePromise
+pub mod Start
+pub mod Phases
+pub mod Laws
