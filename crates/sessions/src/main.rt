@@ -1,0 +1,13 @@
+// Runs the sessions of the script on its input against the proved controller, one call a line, and compares each answer with the one that
+// the script expects of paper 01. Sessions 1 to 8 of the paper are proved (room chip); the script begins with session 9.
+mod calls; // calls.rt: a line's call, made on the image
+mod codes; // codes.rt: the 44 status codes, and in which session each was first read
+mod names; // names.rt: answers and codes in words
+mod script; // script.rt: line by line
+mod words; // words.rt: a line taken apart
+
+fn main() {
+    let mut text = io::large_buffer();
+    let n = io::read_full(0, &mut text);
+    script::run(&text[..n]);
+}
