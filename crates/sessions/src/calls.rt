@@ -10,6 +10,8 @@
 //     count N, count?    writes, reads 12h to 14h
 //     out N B, in N      a block of N bytes, written rising from B, or read
 ghost use Prim.Native.Nat.{_≤_, _<_};
+use crate::tables;
+use crate::words;
 use controller::am33c93a_answer;
 use controller::am33c93a_auxiliary;
 use controller::am33c93a_block;
@@ -20,142 +22,43 @@ use controller::am33c93a_register;
 use controller::am33c93a_request;
 use controller::am33c93a_reselection;
 use controller::am33c93a_time;
-use crate::words;
 
-pub enum Verb {
-    Pointer,
-    PointerRead,
-    Auxiliary,
-    Read,
-    Write,
-    Command,
-    Code,
-    Count,
-    CountRead,
-    Out,
-    In,
-    Time,
-    Answer,
-    Reselection,
-    Request,
-    Free,
-    Lines,
-    Unknown,
+// The first word of a line; the host's calls first. `verb` below is a row of this table.
+pub const VERBS: [u8; 114] = *b"pointer
+pointer?
+auxiliary
+read
+write
+command
+code
+count
+count?
+out
+in
+Time
+Answer
+Reselection
+Request
+Free
+lines
+";
+
+pub const CODE: u32 = 6;
+
+pub const REQUEST: u32 = 14;
+
+const FIRST_OF_THE_BUS: u32 = 11;
+
+const NO_VERB: u32 = 17;
+
+pub fn verb_of(line: &[u8]) -> u32
+    ensures { λ r. ⌜ r ≤ 17 ⌝ }
+{
+    tables::row_of_word(&VERBS, NO_VERB, line, 0)
 }
 
-fn event_of(line: &[u8]) -> Verb {
-    if words::is(line, 0, b"Time") {
-        return Verb::Time;
-    }
-    if words::is(line, 0, b"Answer") {
-        return Verb::Answer;
-    }
-    if words::is(line, 0, b"Reselection") {
-        return Verb::Reselection;
-    }
-    if words::is(line, 0, b"Request") {
-        return Verb::Request;
-    }
-    if words::is(line, 0, b"Free") {
-        return Verb::Free;
-    }
-    if words::is(line, 0, b"lines") {
-        return Verb::Lines;
-    }
-    Verb::Unknown
-}
-
-fn data_of(line: &[u8]) -> Verb {
-    if words::is(line, 0, b"count") {
-        return Verb::Count;
-    }
-    if words::is(line, 0, b"count?") {
-        return Verb::CountRead;
-    }
-    if words::is(line, 0, b"out") {
-        return Verb::Out;
-    }
-    if words::is(line, 0, b"in") {
-        return Verb::In;
-    }
-    event_of(line)
-}
-
-pub fn verb_of(line: &[u8]) -> Verb {
-    if words::is(line, 0, b"code") {
-        return Verb::Code;
-    }
-    if words::is(line, 0, b"command") {
-        return Verb::Command;
-    }
-    if words::is(line, 0, b"read") {
-        return Verb::Read;
-    }
-    if words::is(line, 0, b"write") {
-        return Verb::Write;
-    }
-    if words::is(line, 0, b"auxiliary") {
-        return Verb::Auxiliary;
-    }
-    if words::is(line, 0, b"pointer") {
-        return Verb::Pointer;
-    }
-    if words::is(line, 0, b"pointer?") {
-        return Verb::PointerRead;
-    }
-    data_of(line)
-}
-
-pub fn is_bus(verb: Verb) -> bool {
-    match verb {
-        Verb::Pointer => false,
-        Verb::PointerRead => false,
-        Verb::Auxiliary => false,
-        Verb::Read => false,
-        Verb::Write => false,
-        Verb::Command => false,
-        Verb::Code => false,
-        Verb::Count => false,
-        Verb::CountRead => false,
-        Verb::Out => false,
-        Verb::In => false,
-        Verb::Time => true,
-        Verb::Answer => true,
-        Verb::Reselection => true,
-        Verb::Request => true,
-        Verb::Free => true,
-        Verb::Lines => true,
-        Verb::Unknown => false,
-    }
-}
-
-// 8, which is Bad number, for a word that is no phase.
-fn phase_of(line: &[u8]) -> u32 {
-    if words::is(line, 1, b"Data-Out") {
-        return 0;
-    }
-    if words::is(line, 1, b"Data-In") {
-        return 1;
-    }
-    if words::is(line, 1, b"Command") {
-        return 2;
-    }
-    if words::is(line, 1, b"Status") {
-        return 3;
-    }
-    if words::is(line, 1, b"Phase-4") {
-        return 4;
-    }
-    if words::is(line, 1, b"Phase-5") {
-        return 5;
-    }
-    if words::is(line, 1, b"Message-Out") {
-        return 6;
-    }
-    if words::is(line, 1, b"Message-In") {
-        return 7;
-    }
-    8
+pub fn is_bus(verb: u32) -> bool {
+    verb >= FIRST_OF_THE_BUS
 }
 
 fn parity_of(line: &[u8]) -> u32 {
@@ -244,33 +147,35 @@ fn block_in(n: u32, image: &mut [u8], data: &mut [u8]) -> u32 {
 }
 
 // The i-th Request of a series: its byte has risen i times.
+// 8 for a word that is no phase, which is Bad number.
 pub fn requested(line: &[u8], i: u32, image: &mut [u8]) -> u32 {
     let byte = std::num::wrapping_add_u32(words::operand(line, 2), i);
-    am33c93a_request(image, phase_of(line), byte, parity_of(line))
+    let phase = tables::row_of_word(&tables::PHASES, 8, line, 1);
+    am33c93a_request(image, phase, byte, parity_of(line))
 }
 
 // The answer's number and value, as an entry returns them; 3, Bad number, for a line that is no call.
-pub fn made(verb: Verb, line: &[u8], image: &mut [u8], data: &mut [u8]) -> u32 {
+pub fn made(verb: u32, line: &[u8], image: &mut [u8], data: &mut [u8]) -> u32 {
     let a = words::operand(line, 1);
     let b = words::operand(line, 2);
     match verb {
-        Verb::Pointer => am33c93a_pointer(image, 1, a),
-        Verb::PointerRead => am33c93a_pointer(image, 0, 0),
-        Verb::Auxiliary => am33c93a_auxiliary(image),
-        Verb::Read => read_at(a, image),
-        Verb::Write => written(a, b, times(line), image),
-        Verb::Command => written(0x18, a, 1, image),
-        Verb::Code => read_at(0x17, image),
-        Verb::Count => count_written(a, image),
-        Verb::CountRead => count_read(image),
-        Verb::Out => block_out(a, b, image),
-        Verb::In => block_in(a, image, data),
-        Verb::Time => am33c93a_time(image, a),
-        Verb::Answer => am33c93a_answer(image),
-        Verb::Reselection => am33c93a_reselection(image, a),
-        Verb::Request => requested(line, 0, image),
-        Verb::Free => am33c93a_free(image),
-        Verb::Lines => am33c93a_lines(image),
-        Verb::Unknown => 3,
+        0 => am33c93a_pointer(image, 1, a),
+        1 => am33c93a_pointer(image, 0, 0),
+        2 => am33c93a_auxiliary(image),
+        3 => read_at(a, image),
+        4 => written(a, b, times(line), image),
+        5 => written(0x18, a, 1, image),
+        6 => read_at(0x17, image),
+        7 => count_written(a, image),
+        8 => count_read(image),
+        9 => block_out(a, b, image),
+        10 => block_in(a, image, data),
+        11 => am33c93a_time(image, a),
+        12 => am33c93a_answer(image),
+        13 => am33c93a_reselection(image, a),
+        14 => requested(line, 0, image),
+        15 => am33c93a_free(image),
+        16 => am33c93a_lines(image),
+        _ => 3,
     }
 }

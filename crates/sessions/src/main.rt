@@ -1,9 +1,10 @@
 // Runs the sessions of the script on its input against the proved controller, one call a line, and compares each answer with the one that
 // the script expects of paper 01. Sessions 1 to 8 of the paper are proved (room chip); the script begins with session 9.
 mod calls; // calls.rt: a line's call, made on the image
-mod codes; // codes.rt: the 44 status codes, and in which session each was first read
-mod names; // names.rt: answers and codes in words
+mod codes; // codes.rt: in which session each status code was first read
+mod names; // names.rt: answers, codes and numbers written
 mod script; // script.rt: line by line
+mod tables; // tables.rt: the words of answers, phases and codes
 mod words; // words.rt: a line taken apart
 
 fn main() {

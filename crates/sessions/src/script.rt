@@ -4,16 +4,18 @@
 //     # TEXT                   what the next lines show, mostly a sentence of the paper
 //     CALL = ANSWER VALUE      one call (calls.rt), and what the paper says that it answers; without '=', Done with 0
 //     Request P B xN = ..      N Requests; byte and value rise by one from each to the next
-ghost use Prim.Native.Nat.{_≤_};
-ghost use lib.ListN.{length};
+//
+// A read of 17h is told on the line of the call before it.
 use crate::calls;
-use crate::calls::Verb;
 use crate::codes;
 use crate::names;
 use crate::names::say;
+use crate::tables;
 use crate::words;
 use controller::am33c93a_auxiliary;
 use controller::am33c93a_fresh;
+ghost use Prim.Native.Nat.{_≤_};
+ghost use lib.ListN.{length};
 
 struct Tally {
     session: u8,
@@ -26,6 +28,13 @@ struct Series {
     start: u32,
     last: u32,
     rises: bool,
+}
+
+fn follows(so_far: bool, last: u32, result: u32) -> bool {
+    if result == std::num::wrapping_add_u32(last, 256) {
+        return so_far;
+    }
+    false
 }
 
 fn requests(line: &[u8], n: u32, image: &mut [u8]) -> Series {
@@ -42,20 +51,14 @@ fn requests(line: &[u8], n: u32, image: &mut [u8]) -> Series {
     Series { start, last, rises }
 }
 
-fn follows(so_far: bool, last: u32, result: u32) -> bool {
-    if result == std::num::wrapping_add_u32(last, 256) {
-        return so_far;
-    }
-    false
-}
-
 // The result that a line expects after its '='.
 fn expected(rest: &[u8]) -> u32 {
-    let answer = names::expected_answer(rest);
+    let answer = tables::row_of_word(&tables::ANSWERS, 9, rest, 0);
     match answer {
-        0 => answer + words::operand(rest, 1) % 16777216 * 256,
-        4 => answer + words::operand(rest, 1) % 16777216 * 256,
-        7 => answer + words::operand(rest, 3) % 16777216 * 256,
+        0 => words::operand(rest, 1) % 16777216 * 256,
+        4 => 4 + words::operand(rest, 1) % 16777216 * 256,
+        7 => 7 + words::operand(rest, 3) % 16777216 * 256,
+        9 => 0,
         _ => answer,
     }
 }
@@ -73,61 +76,61 @@ fn say_bytes(data: &[u8], n: u32) {
     }
 }
 
+// How the value of Done is written, by the verb: a byte, a number, a code, auxiliary status, the bytes of a block, lines, or not.
+const FORMS: [u8; 18] = *b"-bab--c-nni---b-l-";
+
 // before is what auxiliary status showed before the call.
-fn say_value(verb: Verb, value: u32, before: u32, data: &[u8]) {
-    match verb {
-        Verb::Pointer => say(b""),
-        Verb::PointerRead => names::say_byte(value),
-        Verb::Auxiliary => {
+fn say_value(verb: u32, value: u32, before: u32, data: &[u8]) {
+    let form = FORMS[(verb % 18) as usize];
+    if form != b'-' {
+        say(b" ");
+    }
+    match form {
+        b'b' => names::say_byte(value),
+        b'n' => names::say_decimal(value),
+        b'c' => {
+            names::say_code(value);
+            say(b" (auxiliary was ");
+            names::say_byte(before);
+            say(b")");
+        }
+        b'a' => {
             names::say_byte(value);
             names::say_auxiliary(value);
         }
-        Verb::Read => names::say_byte(value),
-        Verb::Write => say(b""),
-        Verb::Command => say(b""),
-        Verb::Code => {
-            names::say_byte(value);
-            say(b"  ");
-            names::say_code(value);
-            say(b", auxiliary was ");
-            names::say_byte(before);
-        }
-        Verb::Count => say(b""),
-        Verb::CountRead => names::say_decimal(value),
-        Verb::Out => names::say_decimal(value),
-        Verb::In => {
+        b'i' => {
             names::say_decimal(value);
             say(b" ");
             say_bytes(data, value);
         }
-        Verb::Time => say(b""),
-        Verb::Answer => say(b""),
-        Verb::Reselection => say(b""),
-        Verb::Request => names::say_byte(value),
-        Verb::Free => say(b""),
-        Verb::Lines => names::say_lines(value),
-        Verb::Unknown => say(b""),
+        b'l' => names::say_lines(value),
+        _ => {}
     }
 }
 
-fn say_result(verb: Verb, result: u32, before: u32, data: &[u8]) {
+fn say_result(verb: u32, result: u32, before: u32, data: &[u8]) {
     let number = result % 256;
     names::say_answer(number);
-    say(b" ");
     match number {
         0 => say_value(verb, result / 256, before, data),
-        4 => names::say_byte(result / 256),
-        7 => names::say_byte(result / 256),
-        _ => say(b""),
+        4 | 7 => {
+            say(b" ");
+            names::say_byte(result / 256);
+        }
+        _ => {}
     }
 }
 
 // The call as the script has it, in the column of its side.
-fn say_call(verb: Verb, call: &[u8]) {
+fn say_call(verb: u32, call: &[u8]) {
+    if verb == calls::CODE {
+        say(b"; code: ");
+        return;
+    }
     if calls::is_bus(verb) {
-        say(b"  disk  ");
+        say(b"\n  disk  ");
     } else {
-        say(b"  host  ");
+        say(b"\n  host  ");
     }
     say(call);
     names::say_gap(call.len());
@@ -136,7 +139,6 @@ fn say_call(verb: Verb, call: &[u8]) {
 fn compared(is_right: bool, rest: &[u8], tally: Tally) -> Tally {
     let calls = std::num::wrapping_add_u64(tally.calls, 1);
     if is_right {
-        say(b"\n");
         return Tally {
             session: tally.session,
             calls,
@@ -145,7 +147,6 @@ fn compared(is_right: bool, rest: &[u8], tally: Tally) -> Tally {
     }
     say(b"   EXPECTED");
     say(rest);
-    say(b"\n");
     Tally {
         session: tally.session,
         calls,
@@ -153,7 +154,14 @@ fn compared(is_right: bool, rest: &[u8], tally: Tally) -> Tally {
     }
 }
 
-fn call(call: &[u8], rest: &[u8], image: &mut [u8], data: &mut [u8], first: &mut [u8], tally: Tally) -> Tally {
+fn call(
+    call: &[u8],
+    rest: &[u8],
+    image: &mut [u8],
+    data: &mut [u8],
+    first: &mut [u8],
+    tally: Tally,
+) -> Tally {
     let verb = calls::verb_of(call);
     let before = am33c93a_auxiliary(image) / 256;
     say_call(verb, call);
@@ -166,16 +174,16 @@ fn call(call: &[u8], rest: &[u8], image: &mut [u8], data: &mut [u8], first: &mut
     compared(result == expected(rest), rest, tally)
 }
 
-fn is_series(verb: Verb, call: &[u8]) -> bool {
-    if let Verb::Request = verb {
+fn is_series(verb: u32, call: &[u8]) -> bool {
+    if verb == calls::REQUEST {
         return calls::times(call) > 1;
     }
     false
 }
 
 // A code counts as read where its interrupt was pending.
-fn note(verb: Verb, before: u32, code: u32, first: &mut [u8], tally: Tally) {
-    if let Verb::Code = verb {
+fn note(verb: u32, before: u32, code: u32, first: &mut [u8], tally: Tally) {
+    if verb == calls::CODE {
         if before / 128 % 2 == 1 {
             codes::note(code, tally.session, first);
         }
@@ -210,9 +218,8 @@ fn trimmed(text: &[u8]) -> usize
 }
 
 fn begun(line: &[u8], image: &mut [u8], tally: Tally) -> Tally {
-    say(b"\n");
+    say(b"\n\n");
     say(line);
-    say(b"\n");
     am33c93a_fresh(image);
     Tally {
         session: (words::operand(line, 1) % 256) as u8,
@@ -222,17 +229,16 @@ fn begun(line: &[u8], image: &mut [u8], tally: Tally) -> Tally {
 }
 
 fn remarked(line: &[u8], tally: Tally) -> Tally {
-    say(b"  ");
+    say(b"\n  ");
     say(line);
-    say(b"\n");
     tally
 }
 
 fn step(line: &[u8], image: &mut [u8], data: &mut [u8], first: &mut [u8], tally: Tally) -> Tally {
-    if words::is(line, 0, b"") {
+    if line.len() == 0 {
         return tally;
     }
-    if words::is(line, 0, b"#") {
+    if line[0] == b'#' {
         return remarked(line, tally);
     }
     if words::is(line, 0, b"session") {
@@ -240,19 +246,8 @@ fn step(line: &[u8], image: &mut [u8], data: &mut [u8], first: &mut [u8], tally:
     }
     let mark = words::place_of(line, 0, b'=');
     let end = trimmed(&line[0..mark]);
-    let rest = after(line, mark);
+    let rest = words::after(line, mark);
     call(&line[0..end], &line[rest..], image, data, first, tally)
-}
-
-// The place after `at`, or the end.
-fn after(text: &[u8], at: usize) -> usize
-    ensures { λ r. ⌜ r ≤ length (now (text .entry)) ⌝ }
-{
-    if at < text.len() {
-        at + 1
-    } else {
-        text.len()
-    }
 }
 
 fn all_lines(text: &[u8], image: &mut [u8], data: &mut [u8], first: &mut [u8]) -> Tally {
@@ -277,12 +272,13 @@ pub fn run(text: &[u8]) {
     let mut image = [0u8; 53];
     let mut data = [0u8; 32];
     let mut first = [0u8; 256];
+    say(b"Sessions of the controller");
     let tally = all_lines(text, &mut image, &mut data, &mut first);
     finish(&first, tally);
 }
 
 fn finish(first: &[u8], tally: Tally) {
-    say(b"\nEvery status code, and the session in which a driver first reads it:\n");
+    say(b"\n\nEvery status code, and the session in which a driver first reads it:\n");
     let read = codes::say_all(first);
     say(b"\n");
     io::print_decimal(1, tally.calls);

@@ -61,15 +61,11 @@ pub fn is(line: &[u8], k: u32, name: &[u8]) -> bool {
     check::same(&line[from..to], name)
 }
 
-// The byte that word k begins with; 0 where there is no such word.
-pub fn initial(line: &[u8], k: u32) -> u8 {
-    let w = word(line, k);
-    let from = w.from;
-    if from < line.len() {
-        line[from]
-    } else {
-        0
-    }
+// The place after `at`, or the end.
+pub fn after(text: &[u8], at: usize) -> usize
+    ensures { λ r. ⌜ r ≤ length (now (text .entry)) ⌝ }
+{
+    if at < text.len() { at + 1 } else { text.len() }
 }
 
 fn digit(b: u8) -> u32

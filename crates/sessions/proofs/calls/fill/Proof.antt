@@ -1,3 +1,4 @@
+-- `sessions::calls::fill` is safe and ends: the slice keeps its length.
 use borrow.Author.Needs.{needs}
 use Prim.Native.Nat.{_≤_, _<_, _-_}
 use lib.ListN.{length}

@@ -1,3 +1,4 @@
+-- `sessions::script::all_lines` is safe and ends: each turn goes past one line, and the lent slices keep their lengths.
 use borrow.Author.Needs.{needs}
 use mathlib.Core.Path.{_≡_}
 use Prim.Native.Nat.{_≤_, _<_, _-_}

@@ -1,3 +1,4 @@
+-- `sessions::script::requests` is safe and ends: the image keeps its length.
 use borrow.Author.Needs.{needs}
 use mathlib.Core.Path.{_≡_}
 use Prim.Native.Nat.{_≤_, _<_, _-_}

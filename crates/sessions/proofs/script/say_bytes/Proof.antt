@@ -1,3 +1,4 @@
+-- `sessions::script::say_bytes` is safe and ends: the place stays in the slice.
 use borrow.Author.Needs.{needs}
 use mathlib.Core.Path.{_≡_}
 use Prim.Native.Nat.{_≤_, _<_, _-_}

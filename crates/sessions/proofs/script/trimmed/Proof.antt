@@ -1,3 +1,4 @@
+-- `sessions::script::trimmed` is safe and ends: the end only moves back.
 use borrow.Author.Needs.{needs}
 use Prim.Native.Nat.{_≤_, _<_, _-_}
 use lib.ListN.{length}

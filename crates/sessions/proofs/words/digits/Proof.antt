@@ -1,3 +1,4 @@
+-- `sessions::words::digits` is safe and ends: the number stays below its bound.
 use borrow.Author.Needs.{needs}
 use Prim.Native.Nat.{_≤_, _<_, _-_}
 use lib.ListN.{length}

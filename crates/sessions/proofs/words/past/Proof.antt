@@ -1,3 +1,4 @@
+-- `sessions::words::past` is safe and ends: the place never moves back.
 use borrow.Author.Needs.{needs}
 use Prim.Native.Nat.{_≤_, _<_, _-_}
 use lib.ListN.{length}

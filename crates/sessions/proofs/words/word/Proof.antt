@@ -1,3 +1,4 @@
+-- `sessions::words::word` is safe and ends: a word lies in its line.
 use borrow.Author.Needs.{needs}
 use Prim.Native.Nat.{_≤_, _<_, _-_}
 use lib.ListN.{length}
