@@ -13,6 +13,7 @@ SEED ?= 1
 # A host and a disk around the library, the bus story line by line.
 demo: build/board
 	@build/board
+	@echo "With a host that works as Linux's driver does: build/board --driver linux"
 
 # The static libraries: for this machine's processor, for x86-64 as rt itself builds it, and for a 64-bit Arm.
 lib: $(NATIVE)
@@ -44,6 +45,7 @@ outside: build/refusals build/sessions build/plain_sessions build/differential b
 	@build/sessions
 	@build/differential $(SEED) $(CALLS)
 	@build/board > build/board.out && tail -n 2 build/board.out
+	@build/board --driver linux > build/board-linux.out && tail -n 2 build/board-linux.out
 
 build/board: examples/board.c include/am33c93a.h $(NATIVE)
 	@$(CC) $(CFLAGS) -o $@ $< $(NATIVE)
