@@ -73,14 +73,14 @@ fn read_at(address: u32, image: &mut [u8]) -> u32 {
     am33c93a_register(image, 0, 0)
 }
 
-// How often a line asks for its call: xN is its last word.
+// How often a line asks for its call: xN is one of its words, and no other word of such a line has an x.
 pub fn times(line: &[u8]) -> u32
     ensures { λ r. ⌜ r < 268435456 ⌝ }
 {
     let at = words::place_of(line, 0, b'x');
     if at < line.len() {
         let next = at + 1;
-        return words::number(&line[next..]);
+        return words::operand(&line[next..], 0);
     }
     1
 }

@@ -75,8 +75,8 @@ pub fn say_lines(lines: u32) {
 
 // Blanks from a column to the place of the answers.
 pub fn say_gap(column: usize) {
-    let blanks = [b' '; 30];
-    if column < 30 {
+    let blanks = [b' '; 40];
+    if column < 40 {
         say(&blanks[column..]);
     } else {
         say(b" ");

@@ -4,6 +4,7 @@
 //     # TEXT                   what the next lines show, mostly a sentence of the paper
 //     CALL = ANSWER VALUE      one call (calls.rt), and what the paper says that it answers; without '=', Done with 0
 //     Request P B xN = ..      N Requests; byte and value rise by one from each to the next
+// Words that a call does not look at, as the name of a register, are for the reader.
 //
 // A read of 17h is told on the line of the call before it.
 use crate::calls;
