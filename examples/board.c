@@ -79,6 +79,7 @@ struct item {
     uint8_t phase, byte;
 };
 
+enum { LINGER = 2 }; /* looks until it goes, its story told; a host that waits for 85h need not wait for it */
 enum { LEAVE = 8, COME_BACK = 9 }; /* beside the eight phases: it frees the bus for a while, it reselects us */
 
 static struct item story[128];
@@ -92,7 +93,7 @@ static void disk_starts(void)
 {
     told = length = 0;
     disk_is_ready_to_go = 0;
-    linger = linux_driver ? 2 : 0;
+    linger = linux_driver ? LINGER : 0;
     tell(AM33C93A_MESSAGE_OUT, 0);
     for (int i = 0; i < CDB; i++) tell(AM33C93A_COMMAND_OUT, 0);
     if (comes_back) {
@@ -112,7 +113,10 @@ static uint8_t last_phase = 255;
 /* It frees the bus; at the end of its story some looks later, as a disk does that has other things to do. */
 static void disk_leaves(void)
 {
-    if (told == length && linger-- > 0) return;
+    if (told == length && linger > 0) {
+        if (linger-- == LINGER && waits_with(AM33C93A_CODE_COMPLETE)) printf("  board keeps the code 16h back: the disk is still there\n");
+        return;
+    }
     disk_is_ready_to_go = told == length;
     if (linux_driver && waits_with(AM33C93A_CODE_COMPLETE)) return; /* when the host has read the code (get, above) */
     uint32_t r = am33c93a_free(chip, sizeof chip);
