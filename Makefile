@@ -13,6 +13,7 @@ SEED ?= 1
 # A host and a disk around the library, the bus story line by line.
 demo: build/board
 	@build/board
+	@echo "With a host that works as Linux's driver does: build/board --driver linux"
 
 # The static libraries: for this machine's processor, for x86-64 as rt itself builds it, and for a 64-bit Arm.
 lib: $(NATIVE)
@@ -38,15 +39,22 @@ test:
 	@cat build/ci.log
 
 # Tests of the compiled library: refusals at its boundary, the paper's sessions, and an independent model in C (bench/plain.c).
-outside: build/refusals build/sessions build/plain_sessions build/differential build/board
+outside: build/refusals build/sessions build/plain_sessions build/differential build/board build/first
 	@build/refusals
 	@build/plain_sessions
 	@build/sessions
 	@build/differential $(SEED) $(CALLS)
+	@build/first
 	@build/board > build/board.out && tail -n 2 build/board.out
+	@build/board --driver linux > build/board-linux.out && tail -n 2 build/board-linux.out
 
 build/board: examples/board.c include/am33c93a.h $(NATIVE)
 	@$(CC) $(CFLAGS) -o $@ $< $(NATIVE)
+
+# The example of README.md.
+build/first: README.md include/am33c93a.h $(NATIVE)
+	@sed -n '/^```c$$/,/^```$$/p' README.md | sed '1d;$$d' > build/first.c
+	@$(CC) $(CFLAGS) -o $@ build/first.c $(NATIVE)
 
 build/refusals: tests/refusals.c include/am33c93a.h $(NATIVE)
 	@$(CC) $(CFLAGS) -o $@ $< $(NATIVE)
