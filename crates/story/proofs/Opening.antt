@@ -1,19 +1,7 @@
 -- Words that open definitions together.
 --   scenes   the Target's, the host's and the schedule's
---   steps    these, and the chip's as far as they choose a course; what decides a value stays shut: the FIFO's tests, the phase register's
---            meaning, a register's place, auxiliary status as a byte
---   runs     all of them, so that a closed schedule computes
+--   runs     these and every definition of a step, so that a closed schedule computes
 use Rattle.chip.proofs.Computing.{everything}
-use Rattle.chip.specs.Choice as Choice
-use Rattle.chip.specs.Lines as Lines
-use Rattle.chip.specs.Count as Count
-use Rattle.chip.specs.Interrupts as Interrupts
-use Rattle.chip.specs.TransferInfo as Info
-use Rattle.chip.specs.SelectAndTransfer as Sat
-use Rattle.chip.specs.Commands as Commands
-use Rattle.chip.specs.Registers as Registers
-use Rattle.chip.specs.Events as Events
-use Rattle.chip.specs.Calls as Calls
 use Rattle.story.specs.Hosts as H
 use Rattle.story.specs.Schedule as W
 
@@ -21,21 +9,6 @@ unfoldable pub scenes : Unit {0}
 unfolding H.planned H.noting H.taking H.sending H.made W.took W.valued W.placed W.logged W.waiting W.shown W.offered W.hosted W.replanned
     W.offering W.busBy W.offerTaken W.elapsing W.passingBy W.looking W.pointing W.accessing W.accessBy W.dueBy W.onward W.move W.moves
 scenes = tt
-
-unfoldable pub steps : Unit {0}
-unfolding scenes Choice.pick Choice.both Choice.either Lines.er Lines.lunOf Lines.isSingle Lines.codeOf Count.left Count.noneLeft Count.isLast
-    Count.lowered Count.loaded Count.meansOne Count.loadedInfo Interrupts.busy Interrupts.outgoingDropped Interrupts.raise
-    Interrupts.unread Interrupts.endingWith Interrupts.settledBy Interrupts.settled Interrupts.unlessInterrupt Info.dbr Info.unlessHalted
-    Info.parityNoted Info.atnAfter Info.infoOut Info.takenIn Info.infoTaken Info.infoIn Info.overCode Info.infoOver Info.infoRequest Info.infoFreeCode
-    Sat.size Sat.unexpected Sat.sendIdentify Sat.sendCommand Sat.phaseAfter Sat.sendData Sat.takeData Sat.dataOut Sat.dataIn
-    Sat.unlessNoneLeft Sat.takeStatus Sat.takeMessage Sat.bodyRequest Sat.lateRequest Sat.completed Sat.takeComplete Sat.requestAt
-    Sat.transferRequest Sat.transferFree Sat.fromDisconnected Sat.hasSize Commands.table Commands.entryOf Commands.isReady
-    Commands.isValid Commands.selecting Commands.transferring Commands.informing Commands.carriedOut Commands.accepted
-    Commands.isRefusedBusy Commands.commanded Registers.pointerSet Registers.auxiliaryRead Registers.dataRead Registers.dataWritten Registers.isBlind Registers.readAt
-    Registers.writtenAt Registers.stepped Registers.accessedAt Registers.accessed Events.selectionTime Events.passed Events.connected
-    Events.answeredState Events.answeredSelecting Events.answered Events.idleRequest Events.requestedConnected Events.remembered
-    Events.requested Events.busFree Events.idleFree Events.freed Calls.isGood Calls.carried Calls.step
-steps = tt
 
 unfoldable pub runs : Unit {0}
 unfolding scenes everything H.asked H.serving H.phasesHeard

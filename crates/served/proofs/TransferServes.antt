@@ -32,19 +32,20 @@ use Rattle.chip.specs.declared.Noted.{Noted}
 use Rattle.chip.specs.declared.Phase.{Phase}
 use Rattle.chip.specs.declared.Phase.the-variants.{DataOut, DataIn, CommandOut, StatusIn}
 use Rattle.image.specs.Ok.{Bytes}
 use Rattle.story.specs.Story.{Item, item, items, Way, inward, outward, wayPhase, Job, loaded, close, story, Proper}
 use Rattle.story.specs.Hosts.{Access, put, Note, Host, asked, byTransfer}
 use Rattle.story.specs.Schedule.{calling, talking, away, Scene, bus, due, attended, isNone, onward, Brought, now, later, Move, offer, pass, work, moves, move}
 use Rattle.story.specs.Demand.{bytesOf, dataHeld, statusHeld, countHeld, countBytes, incomingData, Finished, Promise}
-use Rattle.story.proofs.Opening.{scenes, steps}
-use Rattle.story.proofs.Parts.{theRegisters, theStatus, theTransfer, theWire, theState, theHost, theTarget, theScene, Plays, over, puts, gets, Aimed, before, aimed, Polled, coded, taken, sent, Polls, look, seen, ready}
-use Rattle.story.proofs.Queue.{Lined, none-lined, empty-none, empty-some, room-is, waits-is, front-is, fits, popped, pushed}
-use Rattle.story.proofs.Small.{true-or-false, length-snoc, asked-is, Quiet, unfixed, drained}
-use Rattle.story.proofs.Stages.{stage-identify, stage-status}
-use Rattle.story.proofs.Accesses.{put-done, get-done, wait-at}
-use Rattle.story.proofs.Polling.{any-poll}
-use Rattle.story.proofs.TransferScenes.{CommandPhase, Expects, body, late, Set, Ready, Hands, reads, writes, Coming, Going, Left, some, none, Finals, finalNotes, Closes, reading, resting, Reach, loads, seeks, greets, commands, comes, goes, statuses, ends, told, calm, gone, rests}
-use Rattle.story.proofs.TransferSteps.{bus-step, pass-step, work-step, next-is, full-is, has-size, moved-byte, owed-out, final-plays}
+use Rattle.story.proofs.Opening.{scenes}
+use Rattle.served.proofs.Opening.{steps}
+use Rattle.served.proofs.Parts.{theRegisters, theStatus, theTransfer, theWire, theState, theHost, theTarget, theScene, Plays, over, puts, gets, Aimed, before, aimed, Polled, coded, taken, sent, Polls, look, seen, ready}
+use Rattle.served.proofs.Queue.{Lined, none-lined, empty-none, empty-some, room-is, waits-is, front-is, fits, popped, pushed}
+use Rattle.served.proofs.Small.{true-or-false, length-snoc, asked-is, Quiet, unfixed, drained}
+use Rattle.served.proofs.Stages.{stage-identify, stage-status}
+use Rattle.served.proofs.Accesses.{put-done, get-done, wait-at}
+use Rattle.served.proofs.Polling.{any-poll}
+use Rattle.served.proofs.TransferScenes.{CommandPhase, Expects, body, late, Set, Ready, Hands, reads, writes, Coming, Going, Left, some, none, Finals, finalNotes, Closes, reading, resting, Reach, loads, seeks, greets, commands, comes, goes, statuses, ends, told, calm, gone, rests}
+use Rattle.served.proofs.TransferSteps.{bus-step, pass-step, work-step, next-is, full-is, has-size, moved-byte, owed-out, final-plays}
 
 module _ (j : Job) (pr : Proper j) where
   abbrev B : Scene → Type 0

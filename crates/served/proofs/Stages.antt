@@ -11,7 +11,7 @@ use Rattle.chip.specs.Choice.{pick, both}
 use Rattle.chip.specs.SelectAndTransfer.{sizeOf, firstStage, nextStage, isCommandPhase, stageOf}
 use Rattle.chip.specs.declared.Stage.{Stage}
 use Rattle.chip.specs.declared.Stage.the-variants.{SendIdentify, SendCommand, Body, AfterData, AfterStatus}
-use Rattle.story.proofs.TransferScenes.{CommandPhase, first, later, Expects, body, late}
+use Rattle.served.proofs.TransferScenes.{CommandPhase, first, later, Expects, body, late}
 
 pub stage-identify : (n : ℕ) → stageOf true 0x10 n ≡ SendIdentify
 unfolding stageOf pick

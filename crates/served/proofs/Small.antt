@@ -20,9 +20,9 @@ use Rattle.chip.specs.declared.Phase.{Phase}
 use Rattle.chip.specs.declared.Direction.{Direction}
 use Rattle.chip.specs.declared.Direction.the-variants.{Unfixed, In, Out}
 use Rattle.image.specs.Ok.{Bytes}
 use Rattle.story.specs.Story.{Item, item, items}
 use Rattle.story.specs.Hosts.{Access, code, take, send, addressOf, askedBy, asked, nextByte}
-use Rattle.story.proofs.Parts.{Polled, coded, taken, sent, Polls, look, seen, ready}
+use Rattle.served.proofs.Parts.{Polled, coded, taken, sent, Polls, look, seen, ready}
 
 pub true-or-false : (b : Bool) → (b ≡ true) ⊎ (b ≡ false)
 true-or-false true = inl refl

@@ -28,12 +28,12 @@ use Rattle.chip.specs.declared.Noted.the-variants.{NoPhase, Was}
 use Rattle.chip.specs.declared.Phase.{Phase}
 use Rattle.chip.specs.declared.Phase.the-variants.{DataOut, DataIn, CommandOut, StatusIn, UnspecifiedOut, UnspecifiedIn, MessageOut, MessageIn}
 use Rattle.image.specs.Ok.{Bytes}
 use Rattle.story.specs.Story.{Item, item, items, Job}
 use Rattle.story.specs.Hosts.{Access, put, Note, note, countFor, giveFor}
 use Rattle.story.specs.Schedule.{calling, talking, away, Scene}
-use Rattle.story.proofs.Parts.{theRegisters, theStatus, theTransfer, theWire, theState, theHost, theTarget, theScene, Aimed, Polls, Plays}
-use Rattle.story.proofs.Queue.{Lined}
-use Rattle.story.proofs.Small.{Quiet}
+use Rattle.served.proofs.Parts.{theRegisters, theStatus, theTransfer, theWire, theState, theHost, theTarget, theScene, Aimed, Polls, Plays}
+use Rattle.served.proofs.Queue.{Lined}
+use Rattle.served.proofs.Small.{Quiet}
 
 pub data Seg : Type 0 where
   seg : Phase → List ℕ → List ℕ → Seg

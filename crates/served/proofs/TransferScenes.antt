@@ -30,13 +30,13 @@ use Rattle.chip.specs.declared.Noted.the-variants.{NoPhase, Was}
 use Rattle.chip.specs.declared.Phase.{Phase}
 use Rattle.chip.specs.declared.Phase.the-variants.{DataOut, DataIn, CommandOut, StatusIn, MessageOut, MessageIn}
 use Rattle.image.specs.Ok.{Bytes}
 use Rattle.story.specs.Story.{Item, item, items, Way, inward, outward, wayPhase, Job, loaded, identifies, close, story}
 use Rattle.story.specs.Hosts.{Access, put, Note, note}
 use Rattle.story.specs.Schedule.{calling, talking, away, Scene}
 use Rattle.story.specs.Demand.{incomingData, countBytes}
-use Rattle.story.proofs.Parts.{theRegisters, theStatus, theTransfer, theWire, theState, theHost, theTarget, theScene, Aimed, Polls, Plays}
-use Rattle.story.proofs.Queue.{Lined}
-use Rattle.story.proofs.Small.{Quiet}
+use Rattle.served.proofs.Parts.{theRegisters, theStatus, theTransfer, theWire, theState, theHost, theTarget, theScene, Aimed, Polls, Plays}
+use Rattle.served.proofs.Queue.{Lined}
+use Rattle.served.proofs.Small.{Quiet}
 
 -- the command phases of 10h by the bytes taken
 pub data CommandPhase : ℕ → ℕ → Type 0 where

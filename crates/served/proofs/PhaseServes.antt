@@ -29,19 +29,20 @@ use Rattle.chip.specs.declared.Noted.the-variants.{NoPhase, Was}
 use Rattle.chip.specs.declared.Phase.{Phase}
 use Rattle.chip.specs.declared.Phase.the-variants.{DataOut, DataIn, CommandOut, StatusIn, UnspecifiedOut, UnspecifiedIn, MessageOut, MessageIn}
 use Rattle.image.specs.Ok.{Bytes}
 use Rattle.story.specs.Story.{Item, item, items, Job}
 use Rattle.story.specs.Hosts.{Access, put, Note, Host, asked, countFor, giveFor, serving, byPhases}
 use Rattle.story.specs.Schedule.{calling, talking, away, Scene, bus, due, attended, isNone, onward, Brought, now, later, Move, offer, pass, work, moves, move}
-use Rattle.story.proofs.Opening.{scenes, steps}
-use Rattle.story.proofs.Parts.{theRegisters, theStatus, theTransfer, theWire, theState, theHost, theTarget, theScene, Plays, over, puts, gets, Aimed, Polled, coded, taken, sent, Polls, look, seen, ready}
-use Rattle.story.proofs.Queue.{Lined, none-lined, empty-none, empty-some, room-is, waits-is, front-is, fits, popped, pushed}
-use Rattle.story.proofs.Small.{true-or-false, asked-is, Quiet, unfixed, drained}
-use Rattle.story.proofs.Accesses.{put-done, get-done, wait-at}
-use Rattle.story.proofs.Polling.{any-poll}
-use Rattle.story.proofs.PhaseFacts.{phase-round, phase-small, same-phase, shown-byte, single-info, heard-11, heard-20, heard-85, heard-named, good-byte, noting-on, plays-phase}
-use Rattle.story.proofs.PhaseScenes.{Seg, seg, flat, ins, notesOf, notesAfter, Names, Fits, Good, last, more, After, next, Tale, Heard, Noting, Going, Ready, Counted, polls, Begins, Sends, Takes, Closes, Drains, Ends, Reach, begins, sending, taking, closing, draining, ends, loads, seeks, greets, waits, named, sends, takes, closes, drains, pauses, paused, calm, gone, rests}
-use Rattle.story.proofs.PhaseScenes as S
-use Rattle.story.proofs.PhaseSteps.{bus-step, pass-step, work-step, owed-out, good-small}
+use Rattle.story.proofs.Opening.{scenes}
+use Rattle.served.proofs.Opening.{steps}
+use Rattle.served.proofs.Parts.{theRegisters, theStatus, theTransfer, theWire, theState, theHost, theTarget, theScene, Plays, over, puts, gets, Aimed, Polled, coded, taken, sent, Polls, look, seen, ready}
+use Rattle.served.proofs.Queue.{Lined, none-lined, empty-none, empty-some, room-is, waits-is, front-is, fits, popped, pushed}
+use Rattle.served.proofs.Small.{true-or-false, asked-is, Quiet, unfixed, drained}
+use Rattle.served.proofs.Accesses.{put-done, get-done, wait-at}
+use Rattle.served.proofs.Polling.{any-poll}
+use Rattle.served.proofs.PhaseFacts.{phase-round, phase-small, same-phase, shown-byte, single-info, heard-11, heard-20, heard-85, heard-named, good-byte, noting-on, plays-phase}
+use Rattle.served.proofs.PhaseScenes.{Seg, seg, flat, ins, notesOf, notesAfter, Names, Fits, Good, last, more, After, next, Tale, Heard, Noting, Going, Ready, Counted, polls, Begins, Sends, Takes, Closes, Drains, Ends, Reach, begins, sending, taking, closing, draining, ends, loads, seeks, greets, waits, named, sends, takes, closes, drains, pauses, paused, calm, gone, rests}
+use Rattle.served.proofs.PhaseScenes as S
+use Rattle.served.proofs.PhaseSteps.{bus-step, pass-step, work-step, owed-out, good-small}
 
 module _ (j : Job) (whole : List Item) (total : List Note) where
   abbrev B : Scene → Type 0

@@ -33,16 +33,16 @@ use Rattle.image.specs.Ok.{Bytes}
 use Rattle.reached.specs.Sound.{Sound, Shape, Selects, six, seven, eight, nine, Transfers, with-atn, without-atn, Moves, transfer, info, isOutgoing, Placed, joined}
 use Rattle.reached.specs.Sound as Sound
 use Rattle.reached.proofs.Laws.{reached}
 use Rattle.story.specs.Story.{Item, Job, loaded, Proper}
 use Rattle.story.specs.Hosts.{Access, put, Note, countPuts, transferLoads}
 use Rattle.story.specs.Hosts as H
 use Rattle.story.specs.Demand.{Start, lived}
-use Rattle.story.proofs.Parts.{theRegisters, storedIn, Plays, over, puts}
-use Rattle.story.proofs.Small.{length-snoc, bytes-tail, Quiet, unfixed, drained}
-use Rattle.story.proofs.PhaseFacts.{written-count, high-byte, low-byte}
-use Rattle.story.proofs.Stages.{size-small}
-use Rattle.story.proofs.TransferScenes as A
-use Rattle.story.proofs.PhaseScenes as B
+use Rattle.served.proofs.Parts.{theRegisters, storedIn, Plays, over, puts}
+use Rattle.served.proofs.Small.{length-snoc, bytes-tail, Quiet, unfixed, drained}
+use Rattle.served.proofs.PhaseFacts.{written-count, high-byte, low-byte}
+use Rattle.served.proofs.Stages.{size-small}
+use Rattle.served.proofs.TransferScenes as A
+use Rattle.served.proofs.PhaseScenes as B
 
 pub record Apart (s : State) : Type 0 where
   pub pending : s .status .pending ≡ Nothing

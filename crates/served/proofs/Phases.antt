@@ -13,11 +13,11 @@ use Rattle.chip.specs.Phases.{comesIn, isMessageIn, samePhase}
 use Rattle.chip.specs.declared.Phase.{Phase}
 use Rattle.chip.specs.declared.Phase.the-variants.{DataOut, DataIn, CommandOut, StatusIn, MessageOut, MessageIn}
 use Rattle.image.specs.Ok.{Bytes}
 use Rattle.story.specs.Story.{Item, item, items, Way, inward, outward, wayPhase, Job, loaded, identifies, close, story, Proper}
 use Rattle.story.specs.Hosts.{Note, countFor, giveFor}
-use Rattle.story.proofs.Small.{no-bytes, bytes-tail}
-use Rattle.story.proofs.Stages.{size-small}
-use Rattle.story.proofs.PhaseScenes.{Seg, seg, flat, notesAfter, countNotes, Fits, Good, last, more}
+use Rattle.served.proofs.Small.{no-bytes, bytes-tail}
+use Rattle.served.proofs.Stages.{size-small}
+use Rattle.served.proofs.PhaseScenes.{Seg, seg, flat, notesAfter, countNotes, Fits, Good, last, more}
 
 -- by the way of the data, the command and the data
 abbrev pub segsOf : Job → Way → List ℕ → List ℕ → List Seg

@@ -13,10 +13,10 @@ use Rattle.chip.specs.declared.Answer.the-variants.{Done}
 use Rattle.chip.specs.declared.State.{State}
 use Rattle.chip.specs.declared.Connection.{Connection}
 use Rattle.chip.specs.declared.Connection.the-variants.{Disconnected, Selecting, Waiting, Connected}
 use Rattle.story.specs.Hosts.{Host, Program}
 use Rattle.story.specs.Schedule.{Target, Scene, passing, passingBy, elapsing}
-use Rattle.story.proofs.Parts.{theScene}
-use Rattle.story.proofs.Small.{true-or-false}
+use Rattle.served.proofs.Parts.{theScene}
+use Rattle.served.proofs.Small.{true-or-false}
 
 abbrev pub isSelecting : Connection → Bool
 isSelecting Disconnected = false

@@ -20,20 +20,20 @@ use Rattle.chip.specs.declared.Connection.the-variants.{Disconnected}
 use Rattle.chip.specs.declared.Phase.{Phase}
 use Rattle.chip.specs.declared.Phase.the-variants.{DataOut, DataIn, CommandOut, StatusIn, MessageOut, MessageIn}
 use Rattle.image.specs.Ok.{Bytes}
 use Rattle.story.specs.Story.{Item, item, items, Way, inward, outward, wayPhase, Job, loaded, identifies, close, story, Proper}
 use Rattle.story.specs.Hosts.{Note, Host, sentBy, starting, byTransfer, byPhases}
 use Rattle.story.specs.Schedule.{calling, away, Target, Scene, Move, moves}
 use Rattle.story.specs.Demand.{Start, InTime, bytesOf, notesAt, dataHeld, statusHeld, countHeld, countBytes, incomingData, lived, opening, Finished, Promise, Same, sceneA, sceneB, Demand3, Demand}
-use Rattle.story.proofs.Parts.{theRegisters, theStatus, theTransfer, theWire, theState, theHost, theTarget, theScene, before}
-use Rattle.story.proofs.Small.{no-bytes}
-use Rattle.story.proofs.Start.{Apart, apart, transfer-plays, phases-plays}
-use Rattle.story.proofs.Phases.{segsOf, segs, told, good, notes-some, notes-none, bytes-append}
-use Rattle.story.proofs.PhaseScenes.{flat, ins, notesAfter, countNotes, begins}
-use Rattle.story.proofs.PhaseScenes as B
-use Rattle.story.proofs.PhaseServes as BS
-use Rattle.story.proofs.PhasePromise as BP
-use Rattle.story.proofs.TransferScenes as A
-use Rattle.story.proofs.TransferServes as AS
+use Rattle.served.proofs.Parts.{theRegisters, theStatus, theTransfer, theWire, theState, theHost, theTarget, theScene, before}
+use Rattle.served.proofs.Small.{no-bytes}
+use Rattle.served.proofs.Start.{Apart, apart, transfer-plays, phases-plays}
+use Rattle.served.proofs.Phases.{segsOf, segs, told, good, notes-some, notes-none, bytes-append}
+use Rattle.served.proofs.PhaseScenes.{flat, ins, notesAfter, countNotes, begins}
+use Rattle.served.proofs.PhaseScenes as B
+use Rattle.served.proofs.PhaseServes as BS
+use Rattle.served.proofs.PhasePromise as BP
+use Rattle.served.proofs.TransferScenes as A
+use Rattle.served.proofs.TransferServes as AS
 
 -- the state with what is known of it put in
 module _ (s : State) (a : Apart s) where

@@ -22,11 +22,11 @@ use Rattle.chip.specs.declared.Pending.{Pending}
 use Rattle.chip.specs.declared.Direction.{Direction}
 use Rattle.chip.specs.declared.Running.the-variants.{Idle}
 use Rattle.chip.specs.declared.Phase.{Phase}
 use Rattle.story.specs.Story.{Item}
 use Rattle.story.specs.Hosts.{Access, put, get, Note, note, Host, Program}
 use Rattle.story.specs.Schedule.{Target, Scene, replanned, access, bus, due, attended, isNone, Brought, later}
 use Rattle.story.proofs.Opening.{scenes}
-use Rattle.story.proofs.Parts.{theStatus, theTransfer, theState, theHost, theScene, storedIn, stored-is}
+use Rattle.served.proofs.Parts.{theStatus, theTransfer, theState, theHost, theScene, storedIn, stored-is}
 
 abbrev gives : ℕ → State → Outcome
 gives v s = record { answer = Done v; state = s; lent = [] }

@@ -9,12 +9,12 @@ use native.Mathlib.Omega.{arith}
 use Rattle.chip.specs.Calls.{step}
 use mathlib.Core.Logic.{_⊎_, inl, inr}
 use Rattle.chip.specs.declared.Phase.the-variants.{DataIn}
 use Rattle.story.specs.Story.{Item, Job}
 use Rattle.story.specs.Hosts.{Note, byPhases}
 use Rattle.story.specs.Schedule.{away, talking, calling, Place, Scene, Move, offer, pass, work, moves, move}
-use Rattle.story.proofs.PhaseScenes.{ins, Begins, Sends, Takes, Closes, Drains, Ends, Reach, begins, sending, taking, closing, draining, ends, loads, seeks, greets, waits, named, sends, takes, closes, drains, pauses, paused, calm, gone, rests}
-use Rattle.story.proofs.PhaseScenes as S
-use Rattle.story.proofs.PhaseSteps.{bus-step, pass-step, work-step}
+use Rattle.served.proofs.PhaseScenes.{ins, Begins, Sends, Takes, Closes, Drains, Ends, Reach, begins, sending, taking, closing, draining, ends, loads, seeks, greets, waits, named, sends, takes, closes, drains, pauses, paused, calm, gone, rests}
+use Rattle.served.proofs.PhaseScenes as S
+use Rattle.served.proofs.PhaseSteps.{bus-step, pass-step, work-step}
 
 module _ (j : Job) (whole : List Item) (total : List Note) where
   pub record Holds (c : Scene) : Type 0 where

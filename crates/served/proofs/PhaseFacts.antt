@@ -21,12 +21,12 @@ use Rattle.chip.specs.declared.Registers.{Registers}
 use Rattle.chip.specs.declared.Phase.{Phase}
 use Rattle.chip.specs.declared.Phase.the-variants.{DataOut, DataIn, CommandOut, StatusIn, UnspecifiedOut, UnspecifiedIn, MessageOut, MessageIn}
 use Rattle.image.specs.Ok.{Bytes}
 use Rattle.story.specs.Story.{Item, item, items, Job}
 use Rattle.story.specs.Hosts.{Access, put, Note, Host, planned, countPuts, leftGets, countFor, serving, phasesHeard}
-use Rattle.story.proofs.Parts.{theRegisters, storedIn, Plays, over, puts, gets}
-use Rattle.story.proofs.Small.{items-snoc}
-use Rattle.story.proofs.PhaseScenes.{Seg, seg, ins, notesOf, notesAfter, Names, asked, Fits, Good, last, more, Tale, Heard, Noting, Counted, Going}
-use Rattle.story.proofs.PhaseScenes as S
+use Rattle.served.proofs.Parts.{theRegisters, storedIn, Plays, over, puts, gets}
+use Rattle.served.proofs.Small.{items-snoc}
+use Rattle.served.proofs.PhaseScenes.{Seg, seg, ins, notesOf, notesAfter, Names, asked, Fits, Good, last, more, Tale, Heard, Noting, Counted, Going}
+use Rattle.served.proofs.PhaseScenes as S
 
 pub phase-round : (p : Phase) → phaseOf (phaseNumber p) ≡ p
 unfolding phaseOf pick

@@ -7,11 +7,11 @@ use Prim.Native.Nat.{ℕ}
 use Rattle.chip.specs.Calls.{step}
 use Rattle.chip.specs.declared.State.{State}
 use Rattle.chip.specs.declared.Phase.{Phase}
 use Rattle.story.specs.Story.{Item, item}
 use Rattle.story.specs.Hosts.{Access, code, take, send, Note, Program}
 use Rattle.story.specs.Schedule.{Place, calling, talking, away, Brought, now, later}
 use Rattle.story.proofs.Opening.{scenes}
-use Rattle.story.proofs.Parts.{theHost, theTarget, theScene, Polled, coded, taken, sent, Polls, look, seen, ready}
+use Rattle.served.proofs.Parts.{theHost, theTarget, theScene, Polled, coded, taken, sent, Polls, look, seen, ready}
 
 module _ (g : Program) (s : State) (ph : Phase) (v : List ℕ) (got : List Item) (n : List Note) (pa : ℕ) (log : List Item) where
   unplanned : {i : Bool} {x : Access} (f : Bool) (pl : Place) (td : List Item) → Polled i x

@@ -18,17 +18,17 @@ use Rattle.chip.specs.declared.Connection.{Connection}
 use Rattle.chip.specs.declared.Phase.{Phase}
 use Rattle.chip.specs.declared.Phase.the-variants.{MessageIn}
 use Rattle.image.specs.Ok.{Bytes}
 use Rattle.story.specs.Story.{Item, item, items, Job}
 use Rattle.story.specs.Hosts.{Access, Note, Host, countFor, giveFor, serving, byPhases}
 use Rattle.story.specs.Schedule.{Target, Scene, bus, access, passing}
-use Rattle.story.proofs.Opening.{steps}
-use Rattle.story.proofs.Time.{isSelecting, still}
-use Rattle.story.proofs.Parts.{theScene, Aimed, before, aimed, Polled, coded, taken, sent, Polls, look, seen, ready, Plays, over, puts, gets, stored-is}
-use Rattle.story.proofs.Queue.{Lined, none-lined, empty-none, empty-some, room-is, waits-is, front-is, popped, pushed}
-use Rattle.story.proofs.Small.{true-or-false, one-less, bytes-tail, next-byte, no-bytes, no-code, polls-look, small-address, Quiet, unfixed, drained}
-use Rattle.story.proofs.PhaseFacts.{phase-round, phase-small, same-phase, shown-byte, single-info, heard-11, heard-20, heard-85, heard-named, onto, heard-out, heard-in, heard-read, heard-at, good-byte, noting-on, plays-phase}
-use Rattle.story.proofs.PhaseScenes.{Seg, seg, flat, notesOf, notesAfter, Names, asked, Fits, Good, last, more, After, next, Tale, Heard, Noting, Going, Spared, Ready, Counted, Late, polls, Begins, Sends, Takes, Closes, Drains, Ends, Reach, begins, sending, taking, closing, draining, ends, loads, seeks, greets, waits, named, sends, takes, closes, drains, pauses, paused, calm, gone, rests}
-use Rattle.story.proofs.PhaseScenes as S
+use Rattle.served.proofs.Opening.{steps}
+use Rattle.served.proofs.Time.{isSelecting, still}
+use Rattle.served.proofs.Parts.{theScene, Aimed, before, aimed, Polled, coded, taken, sent, Polls, look, seen, ready, Plays, over, puts, gets, stored-is}
+use Rattle.served.proofs.Queue.{Lined, none-lined, empty-none, empty-some, room-is, waits-is, front-is, popped, pushed}
+use Rattle.served.proofs.Small.{true-or-false, one-less, bytes-tail, next-byte, no-bytes, no-code, polls-look, small-address, Quiet, unfixed, drained}
+use Rattle.served.proofs.PhaseFacts.{phase-round, phase-small, same-phase, shown-byte, single-info, heard-11, heard-20, heard-85, heard-named, onto, heard-out, heard-in, heard-read, heard-at, good-byte, noting-on, plays-phase}
+use Rattle.served.proofs.PhaseScenes.{Seg, seg, flat, notesOf, notesAfter, Names, asked, Fits, Good, last, more, After, next, Tale, Heard, Noting, Going, Spared, Ready, Counted, Late, polls, Begins, Sends, Takes, Closes, Drains, Ends, Reach, begins, sending, taking, closing, draining, ends, loads, seeks, greets, waits, named, sends, takes, closes, drains, pauses, paused, calm, gone, rests}
+use Rattle.served.proofs.PhaseScenes as S
 
 module _ (j : Job) (whole : List Item) (total : List Note) where
   abbrev R : Scene → Type 0

@@ -23,17 +23,17 @@ use Rattle.chip.specs.declared.Connection.{Connection}
 use Rattle.chip.specs.declared.Stage.the-variants.{SendCommand, Body, AfterData}
 use Rattle.chip.specs.declared.Phase.the-variants.{DataIn, CommandOut, MessageOut}
 use Rattle.image.specs.Ok.{Bytes}
 use Rattle.story.specs.Story.{Item, item, items, Way, inward, outward, wayPhase, Job, loaded, identifies, close, story, Proper}
 use Rattle.story.specs.Hosts.{Access, get, Note, note, Host, countGets, byTransfer}
 use Rattle.story.specs.Schedule.{Target, Scene, bus, access, passing}
 use Rattle.story.specs.Demand.{incomingData}
-use Rattle.story.proofs.Opening.{steps}
-use Rattle.story.proofs.Time.{isSelecting, still}
-use Rattle.story.proofs.Parts.{theScene, Aimed, before, aimed, Polled, coded, taken, sent, Polls, look, seen, ready, Plays, over, puts, gets, stored-is}
-use Rattle.story.proofs.Queue.{Lined, none-lined, empty-none, empty-some, room-is, waits-is, front-is, fits, popped, pushed}
-use Rattle.story.proofs.Small.{true-or-false, length-snoc, one-less, bytes-tail, next-byte, no-bytes, no-code, polls-look, small-address, items-snoc, Quiet, unfixed, drained}
-use Rattle.story.proofs.Stages.{stage-identify, stage-status, stage-data, stage-next, stage-full, size-small, expects-after}
-use Rattle.story.proofs.TransferScenes.{CommandPhase, first, later, Expects, body, late, Set, Ready, Spared, Hands, reads, writes, Tale, Coming, Going, Left, some, none, Finals, finalNotes, Closes, reading, resting, Reach, loads, seeks, greets, commands, comes, goes, statuses, ends, told, calm, gone, rests}
+use Rattle.served.proofs.Opening.{steps}
+use Rattle.served.proofs.Time.{isSelecting, still}
+use Rattle.served.proofs.Parts.{theScene, Aimed, before, aimed, Polled, coded, taken, sent, Polls, look, seen, ready, Plays, over, puts, gets, stored-is}
+use Rattle.served.proofs.Queue.{Lined, none-lined, empty-none, empty-some, room-is, waits-is, front-is, fits, popped, pushed}
+use Rattle.served.proofs.Small.{true-or-false, length-snoc, one-less, bytes-tail, next-byte, no-bytes, no-code, polls-look, small-address, items-snoc, Quiet, unfixed, drained}
+use Rattle.served.proofs.Stages.{stage-identify, stage-status, stage-data, stage-next, stage-full, size-small, expects-after}
+use Rattle.served.proofs.TransferScenes.{CommandPhase, first, later, Expects, body, late, Set, Ready, Spared, Hands, reads, writes, Tale, Coming, Going, Left, some, none, Finals, finalNotes, Closes, reading, resting, Reach, loads, seeks, greets, commands, comes, goes, statuses, ends, told, calm, gone, rests}
 
 command-at : (had : List ℕ) (b : ℕ) (rest command behind cd : List ℕ) → had ++ (b ∷ rest) ≡ command → cd ≡ command ++ behind
     → getD cd (length had) 0 ≡ b
