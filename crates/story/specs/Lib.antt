@@ -3,3 +3,4 @@ pub mod Hosts
 pub mod Schedule
 pub mod Demand
 pub mod Runs
+pub mod Wrong
