@@ -1,7 +1,7 @@
 -- A scene by its parts, what the host is about to do, and the lists of accesses that it goes through.
 --   theState .. theScene   a scene by its parts
 --   Aimed     where the pointer is set for the host's next access, it is that access's address
---   Polls     the host looks, or makes the access that a look asked for; one to 17h only while INT is set
+--   Polls     the host looks, or makes the access that a look asked for, which is still as good as when it looked
 --   storedIn  the registers with one written
 --   Plays     a list of accesses to 00 to 16h that leads to a goal, and what comes after it
 use mathlib.Core.Path.{_≡_, refl}
@@ -58,16 +58,17 @@ pub data Aimed : List Access → Bool → ℕ → Type 0 where
   before : {l : List Access} {a : ℕ} → Aimed l false a
   aimed : {x : Access} {l : List Access} → Aimed (x ∷ l) true (addressOf x)
 
--- an access that a look asks for; the Boolean is INT
-pub data Polled : Bool → Access → Type 0 where
-  coded : Polled true code
-  taken : {i : Bool} → Polled i take
-  sent : {i : Bool} → Polled i send
+-- an access that a look asked for. The Booleans: INT is set; a byte waits to be read; the next byte may be written, since the Data register
+-- takes it or the Target no longer asks for it
+pub data Polled : Bool → Bool → Bool → Access → Type 0 where
+  coded : {w o : Bool} → Polled true w o code
+  taken : {i w o : Bool} → w ≡ true → Polled i w o take
+  sent : {i w o : Bool} → o ≡ true → Polled i w o send
 
-pub data Polls : Bool → List Access → Bool → ℕ → Type 0 where
-  look : {i : Bool} {a : ℕ} → Polls i [] false a
-  seen : {i : Bool} {x : Access} {a : ℕ} → Polled i x → Polls i (x ∷ []) false a
-  ready : {i : Bool} {x : Access} → Polled i x → Polls i (x ∷ []) true (addressOf x)
+pub data Polls : Bool → Bool → Bool → List Access → Bool → ℕ → Type 0 where
+  look : {i w o : Bool} {a : ℕ} → Polls i w o [] false a
+  seen : {i w o : Bool} {x : Access} {a : ℕ} → Polled i w o x → Polls i w o (x ∷ []) false a
+  ready : {i w o : Bool} {x : Access} → Polled i w o x → Polls i w o (x ∷ []) true (addressOf x)
 
 unfoldable pub storedIn : ℕ → ℕ → Registers → Registers
 storedIn a b r =

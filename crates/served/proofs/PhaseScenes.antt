@@ -33,7 +33,7 @@ use Rattle.story.specs.Hosts.{Access, put, Note, note, countFor, giveFor}
 use Rattle.story.specs.Schedule.{calling, talking, away, Scene}
 use Rattle.served.proofs.Parts.{theRegisters, theStatus, theTransfer, theWire, theState, theHost, theTarget, theScene, Aimed, Polls, Plays}
 use Rattle.served.proofs.Queue.{Lined}
-use Rattle.served.proofs.Small.{Quiet}
+use Rattle.served.proofs.Small.{Quiet, isSome, canSend}
 
 pub data Seg : Type 0 where
   seg : Phase → List ℕ → List ℕ → Seg
@@ -114,7 +114,7 @@ module _ (j : Job) (whole : List Item) (total : List Note) where
   -- the bus is free: Negate ACK comes too late, or the host looks
   pub data Late : List Access → Bool → ℕ → Type 0 where
     negates : {f : Bool} {a : ℕ} → Aimed (put 0x18 0x03 ∷ []) f a → Late (put 0x18 0x03 ∷ []) f a
-    polls : {f : Bool} {l : List Access} {a : ℕ} → Polls true l f a → Late l f a
+    polls : {f : Bool} {l : List Access} {a : ℕ} → Polls true false true l f a → Late l f a
 
   -- before a phase moves
   pub data Begins : Scene → Type 0 where
@@ -132,7 +132,7 @@ module _ (j : Job) (whole : List Item) (total : List Note) where
         (theHost td f MessageOut [] [] n) (theTarget calling pa [] (flat g)))
     seeks : {c m x pa el ow ct tm lu ph sy ct2 ds sr : ℕ} {l e at o f : Bool} {q : Fifo} {d : Direction} {rp ls : Noted} {id : Identity}
         {td : List Access} {cd : List ℕ} {g : List Seg}
-        → Polls false td f x
+        → Polls false false true td f x
         → Quiet d q
         → Spared tm el pa
         → Good g
@@ -143,7 +143,7 @@ module _ (j : Job) (whole : List Item) (total : List Note) where
         (theState (theRegisters ow ct tm cd lu ph sy ct2 ds sr) (theStatus x c m l e Nothing) q (theTransfer SelectWithAtn d o)
         (theWire Selecting at false rp ls id el)) (theHost td f MessageOut [] [] []) (theTarget calling pa [] (flat g)))
     greets : {m x pa el : ℕ} {l e at o f : Bool} {q : Fifo} {d : Direction} {ls : Noted} {id : Identity} {td : List Access} {r : Registers} {g : List Seg}
-        → Polls true td f x
+        → Polls true false true td f x
         → Quiet d q
         → Good g
         → Noting [] (notesAfter g)
@@ -152,7 +152,7 @@ module _ (j : Job) (whole : List Item) (total : List Note) where
         (theScene (theState r (theStatus x 0x11 m l e Interrupt) q (theTransfer Idle d o) (theWire Connected at false NoPhase ls id el))
         (theHost td f MessageOut [] [] []) (theTarget talking pa [] (flat g)))
     waits : {c m x pa el : ℕ} {l e at o f : Bool} {q : Fifo} {d : Direction} {ls : Noted} {id : Identity} {td : List Access} {r : Registers} {g : List Seg}
-        → Polls false td f x
+        → Polls false false true td f x
         → Quiet d q
         → Good g
         → Noting [] (notesAfter g)
@@ -162,7 +162,7 @@ module _ (j : Job) (whole : List Item) (total : List Note) where
         (theHost td f MessageOut [] [] []) (theTarget talking pa [] (flat g)))
     named : {c m x pa el ow ct tm lu ph sy lf ds sr : ℕ} {l e at o f : Bool} {q : Fifo} {d : Direction} {ls : Noted} {id : Identity}
         {td : List Access} {cd v bs y : List ℕ} {g : List Seg} {p cr : Phase} {log got : List Item} {n : List Note}
-        → Polls true td f x
+        → Polls true false true td f x
         → Quiet d q
         → Names c p
         → Good (seg p bs y ∷ g)
@@ -190,7 +190,7 @@ module _ (j : Job) (whole : List Item) (total : List Note) where
   pub data Sends : Scene → Type 0 where
     sends : {c m x pa el ow ct tm lu ph sy ds sr : ℕ} {l e at f : Bool} {q : Fifo} {ls : Noted} {id : Identity} {td : List Access} {cd y : List ℕ}
         {g : List Seg} {p : Phase} {log got : List Item} {n : List Note} (fifo rest give : List ℕ)
-        → Polls false td f x
+        → Polls false false (canSend fifo give) td f x
         → comesIn p ≡ false
         → Lined q fifo
         → Going fifo rest give y
@@ -207,7 +207,7 @@ module _ (j : Job) (whole : List Item) (total : List Note) where
   pub data Takes : Scene → Type 0 where
     takes : {c m x pa el ow ct tm lu ph sy ds sr : ℕ} {l e at f : Bool} {q : Fifo} {ls : Noted} {id : Identity} {td : List Access} {cd v : List ℕ}
         {g : List Seg} {p : Phase} {log got : List Item} {n : List Note} (fifo rest y : List ℕ)
-        → Polls false td f x
+        → Polls false (isSome fifo) true td f x
         → comesIn p ≡ true
         → Lined q fifo
         → Bytes rest
@@ -225,7 +225,7 @@ module _ (j : Job) (whole : List Item) (total : List Note) where
   pub data Closes : Scene → Type 0 where
     closes : {c m x pa el ow ct tm lu ph sy ds sr b : ℕ} {l e at f : Bool} {q : Fifo} {ls : Noted} {id : Identity} {td : List Access} {cd v : List ℕ}
         {log got : List Item} {n : List Note}
-        → Polls false td f x
+        → Polls false false true td f x
         → Lined q []
         → b < 256
         → Bytes v
@@ -241,7 +241,7 @@ module _ (j : Job) (whole : List Item) (total : List Note) where
   pub data Drains : Scene → Type 0 where
     drains : {c k m x pa el ow ct tm lu ph sy lf ds sr b : ℕ} {l e at o f : Bool} {q : Fifo} {ls : Noted} {id : Identity} {td : List Access}
         {cd v bs y : List ℕ} {g : List Seg} {p cr : Phase} {log got : List Item} {n : List Note} (fifo : List ℕ)
-        → Polls false td f x
+        → Polls false true true td f x
         → comesIn cr ≡ true
         → Lined q (b ∷ fifo)
         → Names k p
@@ -259,7 +259,7 @@ module _ (j : Job) (whole : List Item) (total : List Note) where
   pub data Ends : Scene → Type 0 where
     pauses : {c m x pa el b : ℕ} {l e at o f : Bool} {q : Fifo} {rp ls : Noted} {id : Identity} {td : List Access} {r : Registers} {v : List ℕ}
         {log got : List Item} {n : List Note}
-        → Polls false td f x
+        → Polls false true true td f x
         → Lined q (b ∷ [])
         → Bytes v
         → Noting n []
@@ -271,7 +271,7 @@ module _ (j : Job) (whole : List Item) (total : List Note) where
         (theHost td f MessageIn v got n) (theTarget talking pa log []))
     paused : {m x pa el : ℕ} {l e at o f : Bool} {q : Fifo} {d : Direction} {rp ls : Noted} {id : Identity} {td : List Access} {r : Registers} {v : List ℕ}
         {log got : List Item} {n : List Note} {hp : Phase}
-        → Polls true td f x
+        → Polls true false true td f x
         → Quiet d q
         → Bytes v
         → Noting n []
@@ -295,7 +295,7 @@ module _ (j : Job) (whole : List Item) (total : List Note) where
         (theHost (put 0x18 0x03 ∷ []) f hp v got n) (theTarget talking pa log []))
     calm : {c m x pa el : ℕ} {l e at o f : Bool} {q : Fifo} {d : Direction} {rp ls : Noted} {id : Identity} {td : List Access} {r : Registers} {v : List ℕ}
         {log got : List Item} {n : List Note} {hp : Phase}
-        → Polls false td f x
+        → Polls false false true td f x
         → Quiet d q
         → Bytes v
         → Noting n []
@@ -319,7 +319,7 @@ module _ (j : Job) (whole : List Item) (total : List Note) where
         (theTarget away pa log []))
     rests : {c m x pa el : ℕ} {l e at o f : Bool} {q : Fifo} {d : Direction} {rp ls : Noted} {id : Identity} {td : List Access} {r : Registers} {v : List ℕ}
         {log got : List Item} {n : List Note} {hp : Phase}
-        → Polls false td f x
+        → Polls false false true td f x
         → Quiet d q
         → Bytes v
         → Noting n []

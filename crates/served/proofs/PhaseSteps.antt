@@ -1,7 +1,7 @@
 -- With the host that serves phase by phase, each move leads from a scene that can be reached to one that can.
 --   bus-step, pass-step, work-step   a move of the Target, units of time, a call of the host
 use mathlib.Core.Path.{_≡_, refl, sym, _∙_, ap, subst}
-use mathlib.Core.Bool.{Bool, true, false}
+use mathlib.Core.Bool.{Bool, true, false, true≢false, false≢true}
 use mathlib.Core.List.{List, [], _∷_, _++_, append-assoc, append-nil}
 use mathlib.Core.Logic.{_⊎_, inl, inr, ⊎-elim}
 use Prim.Native.Nat.{ℕ, suc, _+_, _-_, _≤_, _<_}
@@ -9,11 +9,14 @@ use native.Mathlib.Omega.{arith}
 use lib.Dec.{ltb, leb, eqb}
 use lib.ListN.{length, length-append}
 use borrow.Author.Tests.{lt-ltb, le-ltb, eq-eqb, ne-eqb, lt-leb, ltb-true}
-use Rattle.chip.specs.Choice.{pick}
+use Rattle.chip.specs.Choice.{pick, both}
+use Rattle.chip.specs.Fifo.{hasRoom}
+use Rattle.chip.specs.Fifo as F
 use Rattle.chip.specs.Calls.{step}
 use Rattle.chip.specs.Phases.{phaseNumber, comesIn}
 use Rattle.chip.specs.declared.State.{State}
 use Rattle.chip.specs.declared.Registers.{Registers}
+use Rattle.chip.specs.declared.Fifo.{Fifo}
 use Rattle.chip.specs.declared.Connection.{Connection}
 use Rattle.chip.specs.declared.Phase.{Phase}
 use Rattle.chip.specs.declared.Phase.the-variants.{MessageIn}
@@ -25,7 +28,7 @@ use Rattle.served.proofs.Opening.{steps}
 use Rattle.served.proofs.Time.{isSelecting, still}
 use Rattle.served.proofs.Parts.{theScene, Aimed, before, aimed, Polled, coded, taken, sent, Polls, look, seen, ready, Plays, over, puts, gets, stored-is}
 use Rattle.served.proofs.Queue.{Lined, none-lined, empty-none, empty-some, room-is, waits-is, front-is, popped, pushed}
-use Rattle.served.proofs.Small.{true-or-false, one-less, bytes-tail, next-byte, no-bytes, no-code, polls-look, small-address, Quiet, unfixed, drained}
+use Rattle.served.proofs.Small.{true-or-false, one-less, bytes-tail, tail-bytes, next-byte, no-bytes, no-code, polls-look, polls-quiet, polls-drained, polls-up, small-address, canSend, some-snoc, waiting-some, can-pop, can-room, can-not, can-now, Quiet, unfixed, drained}
 use Rattle.served.proofs.PhaseFacts.{phase-round, phase-small, same-phase, shown-byte, single-info, heard-11, heard-20, heard-85, heard-named, onto, heard-out, heard-in, heard-read, heard-at, good-byte, noting-on, plays-phase}
 use Rattle.served.proofs.PhaseScenes.{Seg, seg, flat, notesOf, notesAfter, Names, asked, Fits, Good, last, more, After, next, Tale, Heard, Noting, Going, Spared, Ready, Counted, Late, polls, Begins, Sends, Takes, Closes, Drains, Ends, Reach, begins, sending, taking, closing, draining, ends, loads, seeks, greets, waits, named, sends, takes, closes, drains, pauses, paused, calm, gone, rests}
 use Rattle.served.proofs.PhaseScenes as S
@@ -78,10 +81,10 @@ module _ (j : Job) (whole : List Item) (total : List Note) where
         one-out s .0,
         one-less (length rest) (length y),
       )
-      (sending (sends fifo rest give p e (popped l) (one-out s .1) a n (heard-out ph x e i) (onto w)))
+      (sending (sends fifo rest give (polls-up (λ k. k) (can-pop z fifo give) p) e (popped l) (one-out s .1) a n (heard-out ph x e i) (onto w)))
   sending-bus (sends {y = y} {p = ph} fifo [] give p e l s (next {q = q} {c = c} {cs = cs} {y = y′} {gs = gs} z d g) n i w) =
       rw (phase-small q, shown-byte (comesIn q) c (good-byte g), phase-round q, d)
-      (begins (named (no-code p) unfixed (S.over (eqb (0 + length y) 0)) g (s .bytes) (noting-on (seg q (c ∷ cs) y′ ∷ gs) ph (length y) n) i w))
+      (begins (named (no-code (polls-up (λ k. k) (λ k. refl) p)) unfixed (S.over (eqb (0 + length y) 0)) g (s .bytes) (noting-on (seg q (c ∷ cs) y′ ∷ gs) ph (length y) n) i w))
 
   taking-bus : {c : Scene} → Takes j whole total c → R (bus step (byPhases j) c)
   unfolding steps
@@ -106,7 +109,7 @@ module _ (j : Job) (whole : List Item) (total : List Note) where
         z,
         one-less (length rest) (length y),
       )
-      (taking (takes (fifo ++ (x ∷ [])) rest y p e (pushed x l (ltb-true _ _ r)) (bytes-tail x rest bs) v (next z d g) n (heard-in ph x fifo e i) (onto w))))
+      (taking (takes (fifo ++ (x ∷ [])) rest y (polls-up (λ k. some-snoc fifo x) (λ k. k) p) e (pushed x l (ltb-true _ _ r)) (bytes-tail x rest bs) v (next z d g) n (heard-in ph x fifo e i) (onto w))))
       (λ r.
       rw (phase-small ph, phase-round ph, e, lt-ltb x 256 (bs 0), same-phase ph, ne-eqb (suc (length rest) + length y) 0 (omega arith), room-is l, r)
       (taking (takes fifo (x ∷ rest) y p e l bs v (next z d g) n i w)))
@@ -116,7 +119,7 @@ module _ (j : Job) (whole : List Item) (total : List Note) where
   unfolding steps
   closing-bus (closes {b = x} p l h v n i w) =
       rw (lt-ltb x 256 h, phase-round MessageIn, room-is l, empty-some (pushed x l (omega arith)))
-      (ends (pauses p (pushed x l (omega arith)) v n (heard-in MessageIn x [] refl i) (onto w)))
+      (ends (pauses (polls-up (λ k. refl) (λ k. k) p) (pushed x l (omega arith)) v n (heard-in MessageIn x [] refl i) (onto w)))
 
   draining-bus : {c : Scene} → Drains j whole total c → R (bus step (byPhases j) c)
   unfolding steps
@@ -158,6 +161,12 @@ module _ (j : Job) (whole : List Item) (total : List Note) where
   owed-out {fifo} {rest} {give} {x} {z} s =
       lt-ltb (length fifo) (length rest + length x) (omega (arith, length-append fifo (z ∷ give), length-append rest x, ap length (s .line)))
 
+  sending-can : (q : Fifo) {fifo rest x : List ℕ} (give : List ℕ) → Going j whole total fifo rest give x → Lined q fifo
+      → both (ltb (F.waits q) (length rest + length x)) (hasRoom q) ≡ true → canSend fifo give ≡ true
+  unfolding both
+  sending-can q [] s n e = let z : false ≡ true = rw (waits-is n, full-out s) at e in absurd (false≢true z)
+  sending-can q {fifo} (y ∷ give) s n e = can-now fifo y give (rw (waits-is n, owed-out s, room-is n) at e)
+
   one-more : {fifo rest give x : List ℕ} {z : ℕ} → Going j whole total fifo rest (z ∷ give) x → Going j whole total (fifo ++ (z ∷ [])) rest give x
   one-more {fifo} {rest} {give} {x} {z} s = record { line = append-assoc fifo (z ∷ []) give ∙ s .line; bytes = bytes-tail z give (s .bytes) }
 
@@ -170,31 +179,31 @@ module _ (j : Job) (whole : List Item) (total : List Note) where
       rw (lt-ltb x 256 k, lt-leb 0x1A a (omega arith), ne-eqb a 0x17 (omega arith), ne-eqb a 0x18 (omega arith), ne-eqb a 0x19 (omega arith), stored-is) (begins (loads p before q t g n y))
   begins-work (loads (gets {a = a} u p) before q t g n y) = rw (lt-ltb a 256 (omega arith)) (begins (loads (gets u p) aimed q t g n y))
   begins-work (loads (gets {a = a} u p) aimed q t g n y) = rw (lt-leb 0x1A a (omega arith), ne-eqb a 0x17 (omega arith), ne-eqb a 0x18 (omega arith), ne-eqb a 0x19 (omega arith)) (begins (loads p before q t g n y))
-  begins-work (seeks look q t g n y) = begins (seeks (polls-look _ _ _ _ _ _ _) q t g n y)
+  begins-work (seeks look unfixed t g n y) = begins (seeks (polls-quiet _ _ _ _ _ _) unfixed t g n y)
+  begins-work (seeks look (drained k) t g n y) = begins (seeks (polls-drained _ _ _ _ _ _ _ k) (drained k) t g n y)
   begins-work (seeks (seen k) q t g n y) = rw (small-address k) (begins (seeks (ready k) q t g n y))
-  begins-work (seeks (ready taken) unfixed t g n y) = begins (seeks look unfixed t g n y)
-  begins-work (seeks (ready sent) unfixed t g n y) = begins (seeks look unfixed t g n y)
-  begins-work (seeks (ready taken) (drained k) t g n y) = rw k (begins (seeks look (drained k) t g n y))
-  begins-work (seeks (ready sent) (drained k) t g n y) = begins (seeks look (drained k) t g n y)
-  begins-work (greets look q g n y) = begins (greets (polls-look _ _ _ _ _ _ _) q g n y)
+  begins-work (seeks (ready (taken k)) q t g n y) = absurd (false≢true k)
+  begins-work (seeks (ready (sent z)) unfixed t g n y) = begins (seeks look unfixed t g n y)
+  begins-work (seeks (ready (sent z)) (drained k) t g n y) = begins (seeks look (drained k) t g n y)
+  begins-work (greets look unfixed g n y) = begins (greets (polls-quiet _ _ _ _ _ _) unfixed g n y)
+  begins-work (greets look (drained k) g n y) = begins (greets (polls-drained _ _ _ _ _ _ _ k) (drained k) g n y)
   begins-work (greets (seen k) q g n y) = rw (small-address k) (begins (greets (ready k) q g n y))
-  begins-work (greets (ready taken) unfixed g n y) = begins (greets look unfixed g n y)
-  begins-work (greets (ready sent) unfixed g n y) = begins (greets look unfixed g n y)
-  begins-work (greets (ready taken) (drained k) g n y) = rw k (begins (greets look (drained k) g n y))
-  begins-work (greets (ready sent) (drained k) g n y) = begins (greets look (drained k) g n y)
-  begins-work (waits look q g n y) = begins (waits (polls-look _ _ _ _ _ _ _) q g n y)
+  begins-work (greets (ready (taken k)) q g n y) = absurd (false≢true k)
+  begins-work (greets (ready (sent z)) unfixed g n y) = begins (greets look unfixed g n y)
+  begins-work (greets (ready (sent z)) (drained k) g n y) = begins (greets look (drained k) g n y)
+  begins-work (waits look unfixed g n y) = begins (waits (polls-quiet _ _ _ _ _ _) unfixed g n y)
+  begins-work (waits look (drained k) g n y) = begins (waits (polls-drained _ _ _ _ _ _ _ k) (drained k) g n y)
   begins-work (waits (seen k) q g n y) = rw (small-address k) (begins (waits (ready k) q g n y))
-  begins-work (waits (ready taken) unfixed g n y) = begins (waits look unfixed g n y)
-  begins-work (waits (ready sent) unfixed g n y) = begins (waits look unfixed g n y)
-  begins-work (waits (ready taken) (drained k) g n y) = rw k (begins (waits look (drained k) g n y))
-  begins-work (waits (ready sent) (drained k) g n y) = begins (waits look (drained k) g n y)
+  begins-work (waits (ready (taken k)) q g n y) = absurd (false≢true k)
+  begins-work (waits (ready (sent z)) unfixed g n y) = begins (waits look unfixed g n y)
+  begins-work (waits (ready (sent z)) (drained k) g n y) = begins (waits look (drained k) g n y)
   begins-work (greets (ready coded) q g n y) = rw (heard-11 j) (begins (waits look q g n y))
-  begins-work (named look q c g v n i y) = begins (named (polls-look _ _ _ _ _ _ _) q c g v n i y)
+  begins-work (named look unfixed c g v n i y) = begins (named (polls-quiet _ _ _ _ _ _) unfixed c g v n i y)
+  begins-work (named look (drained k) c g v n i y) = begins (named (polls-drained _ _ _ _ _ _ _ k) (drained k) c g v n i y)
   begins-work (named (seen k) q c g v n i y) = rw (small-address k) (begins (named (ready k) q c g v n i y))
-  begins-work (named (ready taken) unfixed c g v n i y) = begins (named look unfixed c g v n i y)
-  begins-work (named {v = vs} (ready sent) unfixed c g v n i y) = rw (next-byte vs v) (begins (named look unfixed c g v n i y))
-  begins-work (named (ready taken) (drained k) c g v n i y) = rw k (begins (named look (drained k) c g v n i y))
-  begins-work (named {v = vs} (ready sent) (drained k) c g v n i y) = rw (next-byte vs v) (begins (named look (drained k) c g v n i y))
+  begins-work (named (ready (taken k)) q c g v n i y) = absurd (false≢true k)
+  begins-work (named {v = vs} (ready (sent z)) unfixed c g v n i y) = rw (next-byte vs v) (begins (named look unfixed c g (tail-bytes vs v) n i y))
+  begins-work (named {v = vs} (ready (sent z)) (drained k) c g v n i y) = rw (next-byte vs v) (begins (named look (drained k) c g (tail-bytes vs v) n i y))
   begins-work (named {c = c} {p = p} {cr = cr} (ready coded) q nm g v n i y) =
       rw (heard-named j c p nm) (begins (S.coded (plays-phase _ cr p _ _ (good-small g) n) before q g i y))
   begins-work (S.coded (over k) before q g i y) = begins (S.coded (over k) aimed q g i y)
@@ -217,85 +226,87 @@ module _ (j : Job) (whole : List Item) (total : List Note) where
 
   sending-work : {c : Scene} → Sends j whole total c → R (access step (byPhases j) c)
   unfolding steps serving
-  sending-work (sends fifo rest give look e l s a n i y) = sending (sends fifo rest give (polls-look _ _ _ _ _ _ _) e l s a n i y)
-  sending-work (sends fifo rest give (seen k) e l s a n i y) = rw (small-address k) (sending (sends fifo rest give (ready k) e l s a n i y))
-  sending-work (sends fifo rest give (ready taken) e l s a n i y) = sending (sends fifo rest give look e l s a n i y)
-  sending-work (sends fifo rest [] (ready sent) e l s a n i y) = rw (waits-is l, full-out s) (sending (sends fifo rest [] look e l s a n i y))
-  sending-work (sends fifo rest (z ∷ give) (ready sent) e l s a n i y) =
-      ⊎-elim
-      (λ r.
+  sending-work (sends fifo rest give look e l s a n i y) =
+      sending (sends fifo rest give (polls-look _ _ _ _ _ _ _ (λ u c. absurd (true≢false (sym c ∙ e))) (λ u c. sending-can _ give s l u)) e l s a n i y)
+  sending-work (sends fifo rest give (seen m) e l s a n i y) = rw (small-address m) (sending (sends fifo rest give (ready m) e l s a n i y))
+  sending-work (sends fifo rest give (ready (taken k)) e l s a n i y) = absurd (false≢true k)
+  sending-work (sends fifo rest [] (ready (sent k)) e l s a n i y) = can-not fifo k
+  sending-work (sends fifo rest (z ∷ give) (ready (sent k)) e l s a n i y) =
       rw (lt-ltb z 256 (s .bytes 0), waits-is l, owed-out s, room-is l)
-      (rw r (sending (sends (fifo ++ (z ∷ [])) rest give look e (pushed z l (ltb-true _ _ r)) (one-more s) a n i y))))
-      (λ r. rw (lt-ltb z 256 (s .bytes 0), waits-is l, owed-out s, room-is l) (rw r (sending (sends fifo rest (z ∷ give) look e l s a n i y))))
-      (true-or-false (ltb (length fifo) 12))
+      (rw (lt-ltb (length fifo) 12 (can-room fifo (z ∷ give) k))
+      (sending (sends (fifo ++ (z ∷ [])) rest give look e (pushed z l (can-room fifo (z ∷ give) k)) (one-more s) a n i y)))
 
   taking-work : {c : Scene} → Takes j whole total c → R (access step (byPhases j) c)
   unfolding steps serving
-  taking-work (takes fifo rest x look e l bs v a n i y) = taking (takes fifo rest x (polls-look _ _ _ _ _ _ _) e l bs v a n i y)
-  taking-work (takes fifo rest x (seen k) e l bs v a n i y) = rw (small-address k) (taking (takes fifo rest x (ready k) e l bs v a n i y))
-  taking-work (takes [] rest x (ready taken) e l bs v a n i y) = rw (empty-none l) (taking (takes [] rest x look e l bs v a n i y))
-  taking-work (takes (b ∷ []) rest x (ready taken) e l bs v a n i y) =
+  taking-work (takes fifo rest x look e l bs v a n i y) =
+      taking (takes fifo rest x (polls-look _ _ _ _ _ _ _ (λ u c. waiting-some fifo l u) (λ u c. refl)) e l bs v a n i y)
+  taking-work (takes fifo rest x (seen m) e l bs v a n i y) = rw (small-address m) (taking (takes fifo rest x (ready m) e l bs v a n i y))
+  taking-work (takes [] rest x (ready (taken k)) e l bs v a n i y) = absurd (false≢true k)
+  taking-work (takes (b ∷ []) rest x (ready (taken k)) e l bs v a n i y) =
       rw (empty-some l, front-is l, empty-none (popped l)) (taking (takes [] rest x look e (popped l) bs v a n (heard-read i) y))
-  taking-work (takes (b ∷ c ∷ fifo) rest x (ready taken) e l bs v a n i y) =
+  taking-work (takes (b ∷ c ∷ fifo) rest x (ready (taken k)) e l bs v a n i y) =
       rw (empty-some l, front-is l, empty-some (popped l)) (taking (takes (c ∷ fifo) rest x look e (popped l) bs v a n (heard-read i) y))
-  taking-work (takes {v = vs} fifo rest x (ready sent) e l bs v a n i y) = rw (next-byte vs v) (taking (takes fifo rest x look e l bs v a n i y))
+  taking-work (takes {v = vs} fifo rest x (ready (sent k)) e l bs v a n i y) = rw (next-byte vs v) (taking (takes fifo rest x look e l bs (tail-bytes vs v) a n i y))
 
   closing-work : {c : Scene} → Closes j whole total c → R (access step (byPhases j) c)
   unfolding steps serving
-  closing-work (closes look l h v n i y) = closing (closes (polls-look _ _ _ _ _ _ _) l h v n i y)
-  closing-work (closes (seen k) l h v n i y) = rw (small-address k) (closing (closes (ready k) l h v n i y))
-  closing-work (closes (ready taken) l h v n i y) = rw (empty-none l) (closing (closes look l h v n i y))
-  closing-work (closes {v = vs} (ready sent) l h v n i y) = rw (next-byte vs v) (closing (closes look l h v n i y))
+  closing-work (closes look l h v n i y) =
+      closing (closes (polls-look _ _ _ _ _ _ _ (λ u c. waiting-some [] l u) (λ u c. refl)) l h v n i y)
+  closing-work (closes (seen m) l h v n i y) = rw (small-address m) (closing (closes (ready m) l h v n i y))
+  closing-work (closes (ready (taken k)) l h v n i y) = absurd (false≢true k)
+  closing-work (closes {v = vs} (ready (sent k)) l h v n i y) = rw (next-byte vs v) (closing (closes look l h (tail-bytes vs v) n i y))
 
   draining-work : {c : Scene} → Drains j whole total c → R (access step (byPhases j) c)
   unfolding steps serving
-  draining-work (drains fifo look e l k g v n i y) = draining (drains fifo (polls-look _ _ _ _ _ _ _) e l k g v n i y)
+  draining-work (drains fifo look e l k g v n i y) =
+      draining (drains fifo (polls-look _ _ _ _ _ _ _ (λ u c. refl) (λ u c. refl)) e l k g v n i y)
   draining-work (drains fifo (seen m) e l k g v n i y) = rw (small-address m) (draining (drains fifo (ready m) e l k g v n i y))
-  draining-work (drains [] (ready taken) e l k g v n i y) =
+  draining-work (drains [] (ready (taken z)) e l k g v n i y) =
       rw (empty-some l, front-is l, empty-none (popped l))
       (begins (named look (drained (empty-none (popped l))) k g v n (heard-at (heard-read i)) y))
-  draining-work (drains (b ∷ fifo) (ready taken) e l k g v n i y) =
+  draining-work (drains (b ∷ fifo) (ready (taken z)) e l k g v n i y) =
       rw (empty-some l, front-is l, empty-some (popped l)) (draining (drains fifo look e (popped l) k g v n (heard-read i) y))
-  draining-work (drains {v = vs} fifo (ready sent) e l k g v n i y) = rw (next-byte vs v) (draining (drains fifo look e l k g v n i y))
+  draining-work (drains {v = vs} fifo (ready (sent z)) e l k g v n i y) = rw (next-byte vs v) (draining (drains fifo look e l k g (tail-bytes vs v) n i y))
 
   ends-work : {c : Scene} → Ends j whole total c → R (access step (byPhases j) c)
   unfolding steps serving
-  ends-work (pauses look l v n i y) = ends (pauses (polls-look _ _ _ _ _ _ _) l v n i y)
-  ends-work (pauses (seen k) l v n i y) = rw (small-address k) (ends (pauses (ready k) l v n i y))
-  ends-work (pauses (ready taken) l v n i y) =
+  ends-work (pauses look l v n i y) =
+      ends (pauses (polls-look _ _ _ _ _ _ _ (λ u c. refl) (λ u c. refl)) l v n i y)
+  ends-work (pauses (seen m) l v n i y) = rw (small-address m) (ends (pauses (ready m) l v n i y))
+  ends-work (pauses (ready (taken z)) l v n i y) =
       rw (empty-some l, front-is l, empty-none (popped l))
       (ends (paused look (drained (empty-none (popped l))) v n (heard-at (heard-read i)) y))
-  ends-work (pauses {v = vs} (ready sent) l v n i y) = rw (next-byte vs v) (ends (pauses look l v n i y))
-  ends-work (paused look q v n i y) = ends (paused (polls-look _ _ _ _ _ _ _) q v n i y)
+  ends-work (pauses {v = vs} (ready (sent z)) l v n i y) = rw (next-byte vs v) (ends (pauses look l (tail-bytes vs v) n i y))
+  ends-work (paused look unfixed v n i y) = ends (paused (polls-quiet _ _ _ _ _ _) unfixed v n i y)
+  ends-work (paused look (drained k) v n i y) = ends (paused (polls-drained _ _ _ _ _ _ _ k) (drained k) v n i y)
   ends-work (paused (seen k) q v n i y) = rw (small-address k) (ends (paused (ready k) q v n i y))
-  ends-work (paused (ready taken) unfixed v n i y) = ends (paused look unfixed v n i y)
-  ends-work (paused {v = vs} (ready sent) unfixed v n i y) = rw (next-byte vs v) (ends (paused look unfixed v n i y))
-  ends-work (paused (ready taken) (drained k) v n i y) = rw k (ends (paused look (drained k) v n i y))
-  ends-work (paused {v = vs} (ready sent) (drained k) v n i y) = rw (next-byte vs v) (ends (paused look (drained k) v n i y))
+  ends-work (paused (ready (taken k)) q v n i y) = absurd (false≢true k)
+  ends-work (paused {v = vs} (ready (sent z)) unfixed v n i y) = rw (next-byte vs v) (ends (paused look unfixed (tail-bytes vs v) n i y))
+  ends-work (paused {v = vs} (ready (sent z)) (drained k) v n i y) = rw (next-byte vs v) (ends (paused look (drained k) (tail-bytes vs v) n i y))
   ends-work (paused (ready coded) q v n i y) = rw (heard-20 j) (ends (S.negates before q v n i y))
   ends-work (S.negates before q v n i y) = ends (S.negates aimed q v n i y)
   ends-work (S.negates aimed q v n i y) = ends (calm look q v n i y)
-  ends-work (calm look q v n i y) = ends (calm (polls-look _ _ _ _ _ _ _) q v n i y)
+  ends-work (calm look unfixed v n i y) = ends (calm (polls-quiet _ _ _ _ _ _) unfixed v n i y)
+  ends-work (calm look (drained k) v n i y) = ends (calm (polls-drained _ _ _ _ _ _ _ k) (drained k) v n i y)
   ends-work (calm (seen k) q v n i y) = rw (small-address k) (ends (calm (ready k) q v n i y))
-  ends-work (calm (ready taken) unfixed v n i y) = ends (calm look unfixed v n i y)
-  ends-work (calm {v = vs} (ready sent) unfixed v n i y) = rw (next-byte vs v) (ends (calm look unfixed v n i y))
-  ends-work (calm (ready taken) (drained k) v n i y) = rw k (ends (calm look (drained k) v n i y))
-  ends-work (calm {v = vs} (ready sent) (drained k) v n i y) = rw (next-byte vs v) (ends (calm look (drained k) v n i y))
+  ends-work (calm (ready (taken k)) q v n i y) = absurd (false≢true k)
+  ends-work (calm {v = vs} (ready (sent z)) unfixed v n i y) = rw (next-byte vs v) (ends (calm look unfixed (tail-bytes vs v) n i y))
+  ends-work (calm {v = vs} (ready (sent z)) (drained k) v n i y) = rw (next-byte vs v) (ends (calm look (drained k) (tail-bytes vs v) n i y))
   ends-work (gone (S.Late.negates before) q v n i y) = ends (gone (S.Late.negates aimed) q v n i y)
   ends-work (gone (S.Late.negates aimed) q v n i y) = ends (gone (polls look) q v n i y)
-  ends-work (gone (polls look) q v n i y) = ends (gone (polls (polls-look _ _ _ _ _ _ _)) q v n i y)
+  ends-work (gone (polls look) unfixed v n i y) = ends (gone (polls (polls-quiet _ _ _ _ _ _)) unfixed v n i y)
+  ends-work (gone {v = vs} (polls (ready (sent z))) unfixed v n i y) = rw (next-byte vs v) (ends (gone (polls look) unfixed (tail-bytes vs v) n i y))
+  ends-work (gone (polls look) (drained k) v n i y) = ends (gone (polls (polls-drained _ _ _ _ _ _ _ k)) (drained k) v n i y)
+  ends-work (gone {v = vs} (polls (ready (sent z))) (drained k) v n i y) = rw (next-byte vs v) (ends (gone (polls look) (drained k) (tail-bytes vs v) n i y))
   ends-work (gone (polls (seen k)) q v n i y) = rw (small-address k) (ends (gone (polls (ready k)) q v n i y))
-  ends-work (gone (polls (ready taken)) unfixed v n i y) = ends (gone (polls look) unfixed v n i y)
-  ends-work (gone {v = vs} (polls (ready sent)) unfixed v n i y) = rw (next-byte vs v) (ends (gone (polls look) unfixed v n i y))
-  ends-work (gone (polls (ready taken)) (drained k) v n i y) = rw k (ends (gone (polls look) (drained k) v n i y))
-  ends-work (gone {v = vs} (polls (ready sent)) (drained k) v n i y) = rw (next-byte vs v) (ends (gone (polls look) (drained k) v n i y))
+  ends-work (gone (polls (ready (taken k))) q v n i y) = absurd (false≢true k)
   ends-work (gone (polls (ready coded)) q v n i y) = rw (heard-85 j) (ends (rests look q v n i y))
-  ends-work (rests look q v n i y) = ends (rests (polls-look _ _ _ _ _ _ _) q v n i y)
+  ends-work (rests look unfixed v n i y) = ends (rests (polls-quiet _ _ _ _ _ _) unfixed v n i y)
+  ends-work (rests look (drained k) v n i y) = ends (rests (polls-drained _ _ _ _ _ _ _ k) (drained k) v n i y)
   ends-work (rests (seen k) q v n i y) = rw (small-address k) (ends (rests (ready k) q v n i y))
-  ends-work (rests (ready taken) unfixed v n i y) = ends (rests look unfixed v n i y)
-  ends-work (rests {v = vs} (ready sent) unfixed v n i y) = rw (next-byte vs v) (ends (rests look unfixed v n i y))
-  ends-work (rests (ready taken) (drained k) v n i y) = rw k (ends (rests look (drained k) v n i y))
-  ends-work (rests {v = vs} (ready sent) (drained k) v n i y) = rw (next-byte vs v) (ends (rests look (drained k) v n i y))
+  ends-work (rests (ready (taken k)) q v n i y) = absurd (false≢true k)
+  ends-work (rests {v = vs} (ready (sent z)) unfixed v n i y) = rw (next-byte vs v) (ends (rests look unfixed (tail-bytes vs v) n i y))
+  ends-work (rests {v = vs} (ready (sent z)) (drained k) v n i y) = rw (next-byte vs v) (ends (rests look (drained k) (tail-bytes vs v) n i y))
 
   pub work-step : {c : Scene} → R c → R (access step (byPhases j) c)
   work-step (begins k) = begins-work k

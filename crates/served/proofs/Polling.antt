@@ -14,7 +14,7 @@ use Rattle.story.proofs.Opening.{scenes}
 use Rattle.served.proofs.Parts.{theHost, theTarget, theScene, Polled, coded, taken, sent, Polls, look, seen, ready}
 
 module _ (g : Program) (s : State) (ph : Phase) (v : List ℕ) (got : List Item) (n : List Note) (pa : ℕ) (log : List Item) where
-  unplanned : {i : Bool} {x : Access} (f : Bool) (pl : Place) (td : List Item) → Polled i x
+  unplanned : {i w o : Bool} {x : Access} (f : Bool) (pl : Place) (td : List Item) → Polled i w o x
       → Brought step g (theScene s (theHost [] false ph v got n) (theTarget pl pa log td))
       → Brought step g (theScene s (theHost (x ∷ []) f ph v got n) (theTarget pl pa log td))
   unfolding scenes
@@ -26,24 +26,24 @@ module _ (g : Program) (s : State) (ph : Phase) (v : List ℕ) (got : List Item)
   unplanned f talking (item p b ∷ l) coded (later e b′) = later e b′
   unplanned f away td coded (now e) = now e
   unplanned f away td coded (later e b′) = later e b′
-  unplanned f calling td taken (now e) = now e
-  unplanned f calling td taken (later e b′) = later e b′
-  unplanned f talking [] taken (now e) = now e
-  unplanned f talking [] taken (later e b′) = later e b′
-  unplanned f talking (item p b ∷ l) taken (now e) = now e
-  unplanned f talking (item p b ∷ l) taken (later e b′) = later e b′
-  unplanned f away td taken (now e) = now e
-  unplanned f away td taken (later e b′) = later e b′
-  unplanned f calling td sent (now e) = now e
-  unplanned f calling td sent (later e b′) = later e b′
-  unplanned f talking [] sent (now e) = now e
-  unplanned f talking [] sent (later e b′) = later e b′
-  unplanned f talking (item p b ∷ l) sent (now e) = now e
-  unplanned f talking (item p b ∷ l) sent (later e b′) = later e b′
-  unplanned f away td sent (now e) = now e
-  unplanned f away td sent (later e b′) = later e b′
+  unplanned f calling td (taken z) (now e) = now e
+  unplanned f calling td (taken z) (later e b′) = later e b′
+  unplanned f talking [] (taken z) (now e) = now e
+  unplanned f talking [] (taken z) (later e b′) = later e b′
+  unplanned f talking (item p b ∷ l) (taken z) (now e) = now e
+  unplanned f talking (item p b ∷ l) (taken z) (later e b′) = later e b′
+  unplanned f away td (taken z) (now e) = now e
+  unplanned f away td (taken z) (later e b′) = later e b′
+  unplanned f calling td (sent z) (now e) = now e
+  unplanned f calling td (sent z) (later e b′) = later e b′
+  unplanned f talking [] (sent z) (now e) = now e
+  unplanned f talking [] (sent z) (later e b′) = later e b′
+  unplanned f talking (item p b ∷ l) (sent z) (now e) = now e
+  unplanned f talking (item p b ∷ l) (sent z) (later e b′) = later e b′
+  unplanned f away td (sent z) (now e) = now e
+  unplanned f away td (sent z) (later e b′) = later e b′
 
-  pub any-poll : {i f : Bool} {l : List Access} {a : ℕ} (pl : Place) (td : List Item) → Polls i l f a
+  pub any-poll : {i w o f : Bool} {l : List Access} {a : ℕ} (pl : Place) (td : List Item) → Polls i w o l f a
       → Brought step g (theScene s (theHost [] false ph v got n) (theTarget pl pa log td))
       → Brought step g (theScene s (theHost l f ph v got n) (theTarget pl pa log td))
   any-poll pl td look b = b

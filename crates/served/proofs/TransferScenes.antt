@@ -36,7 +36,7 @@ use Rattle.story.specs.Schedule.{calling, talking, away, Scene}
 use Rattle.story.specs.Demand.{incomingData, countBytes}
 use Rattle.served.proofs.Parts.{theRegisters, theStatus, theTransfer, theWire, theState, theHost, theTarget, theScene, Aimed, Polls, Plays}
 use Rattle.served.proofs.Queue.{Lined}
-use Rattle.served.proofs.Small.{Quiet}
+use Rattle.served.proofs.Small.{Quiet, isSome, canSend}
 
 -- the command phases of 10h by the bytes taken
 pub data CommandPhase : ℕ → ℕ → Type 0 where
@@ -83,9 +83,9 @@ module _ (j : Job) where
     pub line : fifo ++ give ≡ rest ++ j .beyond
     pub bytes : Bytes give
 
-  pub data Left : Direction → Fifo → List Item → Phase → Type 0 where
-    some : {q : Fifo} {got : List Item} (fifo : List ℕ) → j .way ≡ inward → Lined q fifo → Coming got fifo [] → Left In q got DataIn
-    none : {q : Fifo} {hp : Phase} → incomingData (j .way) (j .moved) ≡ [] → Left Unfixed q [] hp
+  pub data Left : Bool → Direction → Fifo → List Item → Phase → Type 0 where
+    some : {q : Fifo} {got : List Item} (fifo : List ℕ) → j .way ≡ inward → Lined q fifo → Coming got fifo [] → Left (isSome fifo) In q got DataIn
+    none : {q : Fifo} {hp : Phase} → incomingData (j .way) (j .moved) ≡ [] → Left false Unfixed q [] hp
 
   abbrev pub finalNotes : List Note
   finalNotes =
@@ -99,7 +99,7 @@ module _ (j : Job) where
   pub data Closes : Bool → List Access → Bool → ℕ → Registers → List Note → Type 0 where
     reading : {i f : Bool} {x : Access} {l : List Access} {a : ℕ} {r : Registers} {n : List Note} → Plays [] Finals (x ∷ l) r n → Aimed (x ∷ l) f a
         → Closes i (x ∷ l) f a r n
-    resting : {i f : Bool} {l : List Access} {a : ℕ} {r : Registers} {n : List Note} → Polls i l f a → Finals r n → Closes i l f a r n
+    resting : {i f : Bool} {l : List Access} {a : ℕ} {r : Registers} {n : List Note} → Polls i false true l f a → Finals r n → Closes i l f a r n
 
   -- the story with its way by name
   abbrev pub storyOf : Way → List Item
@@ -118,7 +118,7 @@ module _ (j : Job) where
         (theHost td f (wayPhase w) v [] n) (theTarget calling pa [] (storyOf w)))
     seeks : {c m x pa el ow ct tm lu sy ds sr : ℕ} {l e at f : Bool} {rp ls : Noted} {id : Identity} {td : List Access} {cd v : List ℕ} {w : Way}
         → Set cd lu sr
-        → Polls false td f x
+        → Polls false false false td f x
         → Hands w (j .moved) v
         → Spared tm el pa
         → Bytes v
@@ -128,7 +128,7 @@ module _ (j : Job) where
         (theWire Selecting at false rp ls id el)) (theHost td f (wayPhase w) v [] []) (theTarget calling pa [] (storyOf w)))
     greets : {c m x pa el ow ct tm lu sy ds sr : ℕ} {l e at f : Bool} {rp ls : Noted} {id : Identity} {td : List Access} {cd v : List ℕ} {w : Way}
         → Set cd lu sr
-        → Polls false td f x
+        → Polls false false false td f x
         → Hands w (j .moved) v
         → Bytes v
         → Reach
@@ -138,7 +138,7 @@ module _ (j : Job) where
     commands : {c m x pa el ow ct tm lu sy ds sr ph : ℕ} {l e at f : Bool} {rp ls : Noted} {id : Identity} {td : List Access} {cd v : List ℕ} {w : Way}
         {log : List Item} (had rest d : List ℕ)
         → Set cd lu sr
-        → Polls false td f x
+        → Polls false false false td f x
         → Hands w d v
         → Bytes v
         → CommandPhase ph (length had)
@@ -153,7 +153,7 @@ module _ (j : Job) where
         {log got : List Item} {q : Fifo} (fifo rest : List ℕ)
         → j .way ≡ inward
         → Set cd lu sr
-        → Polls false td f x
+        → Polls false (isSome fifo) false td f x
         → Lined q fifo
         → Coming got fifo rest
         → Expects ph (sizeOf (getD cd 0 0)) (length rest + length (j .beyond))
@@ -167,7 +167,7 @@ module _ (j : Job) where
         {log : List Item} {q : Fifo} (fifo rest give : List ℕ)
         → j .way ≡ outward
         → Set cd lu sr
-        → Polls false td f x
+        → Polls false false (canSend fifo give) td f x
         → Lined q fifo
         → Going fifo rest give
         → Expects ph (sizeOf (getD cd 0 0)) (length rest + length (j .beyond))
@@ -177,10 +177,10 @@ module _ (j : Job) where
         (theState (theRegisters ow ct tm cd lu ph sy (length rest + length (j .beyond)) ds sr) (theStatus x c m l e Nothing) q
         (theTransfer TransferWithAtn Out false) (theWire Connected at false rp ls id el)) (theHost td f DataOut give [] [])
         (theTarget talking pa log (items DataOut rest ++ close j)))
-    statuses : {c m x pa el ow ct tm sy ds sr n : ℕ} {l e at f : Bool} {rp ls : Noted} {id : Identity} {td : List Access} {cd v : List ℕ} {hp : Phase}
+    statuses : {c m x pa el ow ct tm sy ds sr n : ℕ} {l e at f wt : Bool} {rp ls : Noted} {id : Identity} {td : List Access} {cd v : List ℕ} {hp : Phase}
         {log got : List Item} {q : Fifo} {d : Direction}
-        → Polls false td f x
-        → Left d q got hp
+        → Polls false wt true td f x
+        → Left wt d q got hp
         → Bytes v
         → n ≡ length (j .beyond)
         → Tale log (item MessageIn 0x00 ∷ [])
@@ -190,7 +190,7 @@ module _ (j : Job) where
         (theWire Connected at false rp ls id el)) (theHost td f hp v got []) (theTarget talking pa log (item MessageIn 0x00 ∷ [])))
     ends : {c m x pa el ow ct tm sy ds sr n b : ℕ} {l e at f : Bool} {rp ls : Noted} {id : Identity} {td : List Access} {cd v : List ℕ}
         {got : List Item} {q : Fifo} (fifo : List ℕ)
-        → Polls false td f x
+        → Polls false true true td f x
         → j .way ≡ inward
         → Lined q (b ∷ fifo)
         → Coming got (b ∷ fifo) []
@@ -202,7 +202,7 @@ module _ (j : Job) where
         (theWire Connected at false rp ls id el)) (theHost td f DataIn v got []) (theTarget talking pa (story j) []))
     told : {m x pa el ow ct tm sy ds sr n : ℕ} {l e at f o : Bool} {rp ls : Noted} {id : Identity} {td : List Access} {cd v : List ℕ} {hp : Phase}
         {got : List Item} {q : Fifo} {d : Direction}
-        → Polls true td f x
+        → Polls true false true td f x
         → Quiet d q
         → got ≡ items DataIn (incomingData (j .way) (j .moved))
         → Bytes v
@@ -231,7 +231,7 @@ module _ (j : Job) where
         (theHost td f hp v got n) (theTarget away pa (story j) []))
     rests : {c m x pa el : ℕ} {l e at f o : Bool} {rp ls : Noted} {id : Identity} {td : List Access} {v : List ℕ} {hp : Phase} {got : List Item}
         {q : Fifo} {d : Direction} {r : Registers} {n : List Note}
-        → Polls false td f x
+        → Polls false false true td f x
         → Finals r n
         → Quiet d q
         → got ≡ items DataIn (incomingData (j .way) (j .moved))

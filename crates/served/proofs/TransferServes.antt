@@ -86,12 +86,12 @@ module _ (j : Job) (pr : Proper j) where
       (theHost td f hp v [] n) (theTarget calling pa [] t))
   unfolding scenes
   load-on (over g) = command-on g
-  load-on {c = c} {m = m} {x = x} {l = l} {e = e} {o = o} {f = f} {q = q} {d = d} {td = td} {r = r} {v = v} {hp = hp} (puts {a = a} {b = b} {l = k} u h p) =
+  load-on {c = c} {m = m} {x = x} {l = l} {e = e} {o = o} {f = f} {q = q} {d = d} {td = td} {r = r} {v = v} {n = n} {hp = hp} (puts {a = a} {b = b} {l = k} u h p) =
       wait-at (byTransfer j) _ _ (bus-idle _ _ _ _ _ _ _ _ _ _ _ _ _) refl
-      (put-done r c m l e Nothing q d o _ refl (byTransfer j) hp v [] _ _ x f td k a b u h) (load-on p)
-  load-on {c = c} {m = m} {x = x} {l = l} {e = e} {o = o} {f = f} {q = q} {d = d} {td = td} {r = r} {v = v} {hp = hp} (gets {a = a} {l = k} u p) =
+      (put-done r c m l e Nothing q d o _ refl (byTransfer j) hp v [] n _ x f td k a b u h) (load-on p)
+  load-on {c = c} {m = m} {x = x} {l = l} {e = e} {o = o} {f = f} {q = q} {d = d} {td = td} {r = r} {v = v} {n = n} {hp = hp} (gets {a = a} {l = k} u p) =
       wait-at (byTransfer j) _ _ (bus-idle _ _ _ _ _ _ _ _ _ _ _ _ _) refl
-      (get-done r c m l e Nothing q d o _ refl (byTransfer j) hp v [] _ _ x f td k a u) (load-on p)
+      (get-done r c m l e Nothing q d o _ refl (byTransfer j) hp v [] n _ x f td k a u) (load-on p)
 
   -- an access is due, and with it made the Target is brought on
   record Attends (c : Scene) : Type 0 where
@@ -367,11 +367,11 @@ module _ (j : Job) (pr : Proper j) where
   notes (gone (reading (gets u p) a) q e b) y = some-left (y .rest)
   notes (gone (resting look n) q e b) y = code-left _ _ _ _ _ (y .rest)
   notes (gone (resting (seen coded) n) q e b) y = code-left _ _ _ _ _ (y .rest)
-  notes (gone (resting (seen taken) n) q e b) y = code-left _ _ _ _ _ (y .rest)
-  notes (gone (resting (seen sent) n) q e b) y = code-left _ _ _ _ _ (y .rest)
+  notes (gone (resting (seen (taken k)) n) q e b) y = code-left _ _ _ _ _ (y .rest)
+  notes (gone (resting (seen (sent k)) n) q e b) y = code-left _ _ _ _ _ (y .rest)
   notes (gone (resting (ready coded) n) q e b) y = code-left _ _ _ _ _ (y .rest)
-  notes (gone (resting (ready taken) n) q e b) y = code-left _ _ _ _ _ (y .rest)
-  notes (gone (resting (ready sent) n) q e b) y = code-left _ _ _ _ _ (y .rest)
+  notes (gone (resting (ready (taken k)) n) q e b) y = code-left _ _ _ _ _ (y .rest)
+  notes (gone (resting (ready (sent k)) n) q e b) y = code-left _ _ _ _ _ (y .rest)
   notes (rests p n q e b) y = n .notes
 
   bytes-same : (p : Phase) → (l : List ℕ) → bytesOf p (items p l) ≡ l

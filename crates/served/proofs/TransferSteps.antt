@@ -1,7 +1,7 @@
 -- With the host that serves by one Select-And-Transfer, each move leads from a scene that can be reached to one that can.
 --   bus-step, pass-step, work-step   a move of the Target, units of time, a call of the host
 use mathlib.Core.Path.{_≡_, refl, sym, _∙_, ap, subst}
-use mathlib.Core.Bool.{Bool, true, false}
+use mathlib.Core.Bool.{Bool, true, false, true≢false, false≢true}
 use mathlib.Core.List.{List, [], _∷_, _++_, append-assoc, append-nil}
 use mathlib.Core.Logic.{_⊎_, inl, inr, ⊎-elim}
 use Prim.Native.Nat.{ℕ, suc, _+_, _-_, _/_, _%_, _≤_, _<_}
@@ -11,7 +11,8 @@ use lib.Dec.{ltb, leb, eqb}
 use lib.ListN.{length, getD, length-append}
 use lib.Seq.{getD-append-seam}
 use borrow.Author.Tests.{lt-ltb, le-ltb, eq-eqb, ne-eqb, lt-leb, eqb-true, ltb-true, ltb-false}
-use Rattle.chip.specs.Choice.{pick}
+use Rattle.chip.specs.Choice.{pick, both}
+use Rattle.chip.specs.Fifo.{waits, hasRoom}
 use Rattle.chip.specs.Calls.{step}
 use Rattle.chip.specs.Lines.{isOn, identify, bit}
 use Rattle.chip.specs.Phases.{phaseOf}
@@ -19,6 +20,7 @@ use Rattle.chip.specs.Registers.{registerAt}
 use Rattle.chip.specs.SelectAndTransfer.{sizeOf, stageOf}
 use Rattle.chip.specs.declared.State.{State}
 use Rattle.chip.specs.declared.Registers.{Registers}
+use Rattle.chip.specs.declared.Fifo.{Fifo}
 use Rattle.chip.specs.declared.Connection.{Connection}
 use Rattle.chip.specs.declared.Stage.the-variants.{SendCommand, Body, AfterData}
 use Rattle.chip.specs.declared.Phase.the-variants.{DataIn, CommandOut, MessageOut}
@@ -31,7 +33,7 @@ use Rattle.served.proofs.Opening.{steps}
 use Rattle.served.proofs.Time.{isSelecting, still}
 use Rattle.served.proofs.Parts.{theScene, Aimed, before, aimed, Polled, coded, taken, sent, Polls, look, seen, ready, Plays, over, puts, gets, stored-is}
 use Rattle.served.proofs.Queue.{Lined, none-lined, empty-none, empty-some, room-is, waits-is, front-is, fits, popped, pushed}
-use Rattle.served.proofs.Small.{true-or-false, length-snoc, one-less, bytes-tail, next-byte, no-bytes, no-code, polls-look, small-address, items-snoc, Quiet, unfixed, drained}
+use Rattle.served.proofs.Small.{true-or-false, length-snoc, items-snoc, one-less, bytes-tail, tail-bytes, next-byte, no-bytes, no-code, polls-look, polls-quiet, polls-drained, polls-up, small-address, canSend, some-snoc, waiting-some, can-pop, can-room, can-not, can-now, Quiet, unfixed, drained}
 use Rattle.served.proofs.Stages.{stage-identify, stage-status, stage-data, stage-next, stage-full, size-small, expects-after}
 use Rattle.served.proofs.TransferScenes.{CommandPhase, first, later, Expects, body, late, Set, Ready, Spared, Hands, reads, writes, Tale, Coming, Going, Left, some, none, Finals, finalNotes, Closes, reading, resting, Reach, loads, seeks, greets, commands, comes, goes, statuses, ends, told, calm, gone, rests}
 
@@ -129,7 +131,7 @@ module _ (j : Job) (pr : Proper j) where
       rw (next-is ph had x rest s q e, command-at had x rest (j .command) (s .behind) _ e (s .cdb))
       (commands (had ++ (x ∷ [])) rest d s p h b (later (length-snoc had x)) (append-assoc had (x ∷ []) rest ∙ e) (onto t))
   bus-step (commands {ph = ph} had [] [] s p h b q e t) =
-      rw (full-is ph had s q e, lt-ltb (j .status) 256 (pr .status-byte)) (statuses p (none (none-in h)) b (zero-add _) (onto t))
+      rw (full-is ph had s q e, lt-ltb (j .status) 256 (pr .status-byte)) (statuses (polls-up (λ k. k) (λ k. refl) p) (none (none-in h)) b (zero-add _) (onto t))
   bus-step (commands {ph = ph} had [] (x ∷ d) s p (reads w f) b q e t) =
       rw (
         full-is ph had s q e,
@@ -138,14 +140,14 @@ module _ (j : Job) (pr : Proper j) where
         room-is none-lined,
         one-less (length d) (length (j .beyond)),
       )
-      (comes (x ∷ []) d w s p (pushed x none-lined (omega arith)) (first-in w f) (expects-after (length d) _ ph _ (full-is ph had s q e)) (onto t))
+      (comes (x ∷ []) d w s (polls-up (λ k. refl) (λ k. k) p) (pushed x none-lined (omega arith)) (first-in w f) (expects-after (length d) _ ph _ (full-is ph had s q e)) (onto t))
   bus-step (commands {ph = ph} had [] (x ∷ d) s p (writes {v = v} w f g) b q e t) =
       rw (full-is ph had s q e, ne-eqb (suc (length d) + length (j .beyond)) 0 (omega arith))
-      (goes [] (x ∷ d) v w s p none-lined (record { line = g; bytes = b }) (body (full-is ph had s q e)) t)
+      (goes [] (x ∷ d) v w s (polls-up (λ k. k) (λ k. absurd (false≢true k)) p) none-lined (record { line = g; bytes = b }) (body (full-is ph had s q e)) t)
   bus-step (comes fifo [] w s p n i (body e) t) =
-      rw (e, lt-ltb (j .status) 256 (pr .status-byte)) (statuses p (some fifo w n i) no-bytes (zero-add _) (onto t))
+      rw (e, lt-ltb (j .status) 256 (pr .status-byte)) (statuses (polls-up (λ k. k) (λ k. refl) p) (some fifo w n i) no-bytes (zero-add _) (onto t))
   bus-step (comes fifo [] w s p n i (late e z) t) =
-      rw (e, lt-ltb (j .status) 256 (pr .status-byte)) (statuses p (some fifo w n i) no-bytes (zero-add _) (onto t))
+      rw (e, lt-ltb (j .status) 256 (pr .status-byte)) (statuses (polls-up (λ k. k) (λ k. refl) p) (some fifo w n i) no-bytes (zero-add _) (onto t))
   bus-step (comes fifo (x ∷ rest) w s p n i (late e z) t) = absurd (omega arith)
   bus-step (comes {ph = ph} fifo (x ∷ rest) w s p n i (body e) t) =
       ⊎-elim
@@ -158,15 +160,15 @@ module _ (j : Job) (pr : Proper j) where
         r,
         one-less (length rest) (length (j .beyond)),
       )
-      (comes (fifo ++ (x ∷ [])) rest w s p (pushed x n (ltb-true _ _ r)) (one-in fifo x rest i) (expects-after (length rest) _ ph _ e) (onto t)))
+      (comes (fifo ++ (x ∷ [])) rest w s (polls-up (λ k. some-snoc fifo x) (λ k. k) p) (pushed x n (ltb-true _ _ r)) (one-in fifo x rest i) (expects-after (length rest) _ ph _ e) (onto t)))
       (λ r.
       rw (e, lt-ltb x 256 (i .bytes 0), ne-eqb (suc (length rest) + length (j .beyond)) 0 (omega arith), room-is n, r)
       (comes fifo (x ∷ rest) w s p n i (body e) t))
       (true-or-false (ltb (length fifo) 12))
   bus-step (goes fifo [] give w s p n i (body e) t) =
-      rw (e, lt-ltb (j .status) 256 (pr .status-byte)) (statuses p (none (none-out w)) (i .bytes) (zero-add _) (onto t))
+      rw (e, lt-ltb (j .status) 256 (pr .status-byte)) (statuses (polls-up (λ k. k) (λ k. refl) p) (none (none-out w)) (i .bytes) (zero-add _) (onto t))
   bus-step (goes fifo [] give w s p n i (late e z) t) =
-      rw (e, lt-ltb (j .status) 256 (pr .status-byte)) (statuses p (none (none-out w)) (i .bytes) (zero-add _) (onto t))
+      rw (e, lt-ltb (j .status) 256 (pr .status-byte)) (statuses (polls-up (λ k. k) (λ k. refl) p) (none (none-out w)) (i .bytes) (zero-add _) (onto t))
   bus-step (goes fifo (x ∷ rest) give w s p n i (late e z) t) = absurd (omega arith)
   bus-step (goes [] (x ∷ rest) give w s p n i (body e) t) =
       rw (e, ne-eqb (suc (length rest) + length (j .beyond)) 0 (omega arith), empty-none n) (goes [] (x ∷ rest) give w s p n i (body e) t)
@@ -179,7 +181,7 @@ module _ (j : Job) (pr : Proper j) where
         same-byte y fifo x rest give i,
         one-less (length rest) (length (j .beyond)),
       )
-      (goes fifo rest give w s p (popped n) (one-out y fifo x rest give i) (expects-after (length rest) _ ph _ e) (onto t))
+      (goes fifo rest give w s (polls-up (λ k. k) (can-pop y fifo give) p) (popped n) (one-out y fifo x rest give i) (expects-after (length rest) _ ph _ e) (onto t))
   bus-step (statuses p (some [] w n i) b z t) =
       rw (stage-status _, empty-none n, t .whole) (told (no-code p) (drained (empty-none n)) (all-read w i) b z)
   bus-step (statuses p (some (x ∷ fifo) w n i) b z t) =
@@ -267,6 +269,14 @@ module _ (j : Job) (pr : Proper j) where
       lt-ltb (length fifo) (length rest + length (j .beyond))
       (omega (arith, length-append fifo (y ∷ give), length-append rest (j .beyond), ap length (g .line)))
 
+  sending-can : (q : Fifo) (fifo rest give : List ℕ) → Lined q fifo → Going j fifo rest give
+      → both (ltb (waits q) (length rest + length (j .beyond))) (hasRoom q) ≡ true → canSend fifo give ≡ true
+  unfolding both
+  sending-can q fifo rest [] n g e =
+      let z : false ≡ true = rw (waits-is n, full-out fifo rest g) at e in
+      absurd (false≢true z)
+  sending-can q fifo rest (y ∷ give) n g e = can-now fifo y give (rw (waits-is n, owed-out fifo rest y give g, room-is n) at e)
+
   pub closes-on : {i : Bool} {l : List Access} {a : ℕ} {r : Registers} {n : List Note} → Plays [] (Finals j) l r n → Closes j i l false a r n
   closes-on (over g) = resting look g
   closes-on (puts u k p) = reading (puts u k p) before
@@ -299,90 +309,88 @@ module _ (j : Job) (pr : Proper j) where
       rw (lt-ltb x 256 k, lt-leb 0x1A a (omega arith), ne-eqb a 0x17 (omega arith), ne-eqb a 0x18 (omega arith), ne-eqb a 0x19 (omega arith), stored-is) (loads p before h t b)
   work-step (loads (gets {a = a} u p) before h t b) = rw (lt-ltb a 256 (omega arith)) (loads (gets u p) aimed h t b)
   work-step (loads (gets {a = a} u p) aimed h t b) = rw (lt-leb 0x1A a (omega arith), ne-eqb a 0x17 (omega arith), ne-eqb a 0x18 (omega arith), ne-eqb a 0x19 (omega arith)) (loads p before h t b)
-  work-step (seeks s look h t b) = seeks s (polls-look _ _ _ _ _ _ _) h t b
+  work-step (seeks s look h t b) = seeks s (polls-quiet _ _ _ _ _ _) h t b
   work-step (seeks s (seen k) h t b) = rw (small-address k) (seeks s (ready k) h t b)
-  work-step (seeks s (ready taken) h t b) = seeks s look h t b
-  work-step (seeks {v = v} s (ready sent) h t b) = rw (next-byte v b) (seeks s look h t b)
-  work-step (greets s look h b) = greets s (polls-look _ _ _ _ _ _ _) h b
+  work-step (seeks s (ready (taken k)) h t b) = absurd (false≢true k)
+  work-step (seeks s (ready (sent k)) h t b) = absurd (false≢true k)
+  work-step (greets s look h b) = greets s (polls-quiet _ _ _ _ _ _) h b
   work-step (greets s (seen k) h b) = rw (small-address k) (greets s (ready k) h b)
-  work-step (greets s (ready taken) h b) = greets s look h b
-  work-step (greets {v = v} s (ready sent) h b) = rw (next-byte v b) (greets s look h b)
-  work-step (commands had rest d s look h b q e t) = commands had rest d s (polls-look _ _ _ _ _ _ _) h b q e t
+  work-step (greets s (ready (taken k)) h b) = absurd (false≢true k)
+  work-step (greets s (ready (sent k)) h b) = absurd (false≢true k)
+  work-step (commands had rest d s look h b q e t) = commands had rest d s (polls-quiet _ _ _ _ _ _) h b q e t
   work-step (commands had rest d s (seen k) h b q e t) = rw (small-address k) (commands had rest d s (ready k) h b q e t)
-  work-step (commands had rest d s (ready taken) h b q e t) = commands had rest d s look h b q e t
-  work-step (commands {v = v} had rest d s (ready sent) h b q e t) = rw (next-byte v b) (commands had rest d s look h b q e t)
-  work-step (comes fifo rest w s look n i x t) = comes fifo rest w s (polls-look _ _ _ _ _ _ _) n i x t
+  work-step (commands had rest d s (ready (taken k)) h b q e t) = absurd (false≢true k)
+  work-step (commands had rest d s (ready (sent k)) h b q e t) = absurd (false≢true k)
+  work-step (comes fifo rest w s look n i x t) =
+      comes fifo rest w s (polls-look _ _ _ _ _ _ _ (λ u c. waiting-some fifo n u) (λ u c. absurd (true≢false c))) n i x t
   work-step (comes fifo rest w s (seen k) n i x t) = rw (small-address k) (comes fifo rest w s (ready k) n i x t)
-  work-step (comes [] rest w s (ready taken) n i x t) = rw (empty-none n) (comes [] rest w s look n i x t)
-  work-step (comes (y ∷ []) rest w s (ready taken) n i x t) =
+  work-step (comes [] rest w s (ready (taken k)) n i x t) = absurd (false≢true k)
+  work-step (comes (y ∷ []) rest w s (ready (taken k)) n i x t) =
       rw (empty-some n, front-is n, empty-none (popped n)) (comes [] rest w s look (popped n) (one-read y [] rest i) x t)
-  work-step (comes (y ∷ z ∷ fifo) rest w s (ready taken) n i x t) =
+  work-step (comes (y ∷ z ∷ fifo) rest w s (ready (taken k)) n i x t) =
       rw (empty-some n, front-is n, empty-some (popped n)) (comes (z ∷ fifo) rest w s look (popped n) (one-read y (z ∷ fifo) rest i) x t)
-  work-step (comes fifo rest w s (ready sent) n i x t) = comes fifo rest w s look n i x t
-  work-step (goes fifo rest give w s look n i x t) = goes fifo rest give w s (polls-look _ _ _ _ _ _ _) n i x t
+  work-step (comes fifo rest w s (ready (sent k)) n i x t) = absurd (false≢true k)
+  work-step (goes fifo rest give w s look n i x t) =
+      goes fifo rest give w s (polls-look _ _ _ _ _ _ _ (λ u c. absurd (false≢true c)) (λ u c. sending-can _ fifo rest give n i u)) n i x t
   work-step (goes fifo rest give w s (seen k) n i x t) = rw (small-address k) (goes fifo rest give w s (ready k) n i x t)
-  work-step (goes fifo rest give w s (ready taken) n i x t) = goes fifo rest give w s look n i x t
-  work-step (goes fifo rest [] w s (ready sent) n i x t) =
-      rw (waits-is n, full-out fifo rest i) (goes fifo rest [] w s look n i x t)
-  work-step (goes fifo rest (y ∷ give) w s (ready sent) n i x t) =
-      ⊎-elim
-      (λ r.
+  work-step (goes fifo rest give w s (ready (taken k)) n i x t) = absurd (false≢true k)
+  work-step (goes fifo rest [] w s (ready (sent k)) n i x t) = can-not fifo k
+  work-step (goes fifo rest (y ∷ give) w s (ready (sent k)) n i x t) =
       rw (lt-ltb y 256 (i .bytes 0), waits-is n, owed-out fifo rest y give i, room-is n)
-      (rw r (goes (fifo ++ (y ∷ [])) rest give w s look (pushed y n (ltb-true _ _ r)) (one-more fifo rest y give i) x t)))
-      (λ r.
-      rw (lt-ltb y 256 (i .bytes 0), waits-is n, owed-out fifo rest y give i, room-is n)
-      (rw r (goes fifo rest (y ∷ give) w s look n i x t)))
-      (true-or-false (ltb (length fifo) 12))
-  work-step (statuses look f b z t) = statuses (polls-look _ _ _ _ _ _ _) f b z t
+      (rw (lt-ltb (length fifo) 12 (can-room fifo (y ∷ give) k))
+      (goes (fifo ++ (y ∷ [])) rest give w s look (pushed y n (can-room fifo (y ∷ give) k)) (one-more fifo rest y give i) x t))
+  work-step (statuses look (some fifo w n i) b z t) =
+      statuses (polls-look _ _ _ _ _ _ _ (λ u c. waiting-some fifo n u) (λ u c. refl)) (some fifo w n i) b z t
+  work-step (statuses look (none e) b z t) = statuses (polls-quiet _ _ _ _ _ _) (none e) b z t
   work-step (statuses (seen k) f b z t) = rw (small-address k) (statuses (ready k) f b z t)
-  work-step (statuses (ready taken) (some [] w n i) b z t) = rw (empty-none n) (statuses look (some [] w n i) b z t)
-  work-step (statuses (ready taken) (some (y ∷ []) w n i) b z t) =
+  work-step (statuses (ready (taken k)) (some [] w n i) b z t) = absurd (false≢true k)
+  work-step (statuses (ready (taken k)) (some (y ∷ []) w n i) b z t) =
       rw (empty-some n, front-is n, empty-none (popped n)) (statuses look (some [] w (popped n) (one-taken y [] i)) b z t)
-  work-step (statuses (ready taken) (some (y ∷ x ∷ fifo) w n i) b z t) =
+  work-step (statuses (ready (taken k)) (some (y ∷ x ∷ fifo) w n i) b z t) =
       rw (empty-some n, front-is n, empty-some (popped n)) (statuses look (some (x ∷ fifo) w (popped n) (one-taken y (x ∷ fifo) i)) b z t)
-  work-step (statuses (ready taken) (none e) b z t) = statuses look (none e) b z t
-  work-step (statuses {v = v} (ready sent) (some fifo w n i) b z t) = rw (next-byte v b) (statuses look (some fifo w n i) b z t)
-  work-step (statuses {v = v} (ready sent) (none e) b z t) = rw (next-byte v b) (statuses look (none e) b z t)
-  work-step (ends fifo look w n i b z) = ends fifo (polls-look _ _ _ _ _ _ _) w n i b z
+  work-step (statuses (ready (taken k)) (none e) b z t) = absurd (false≢true k)
+  work-step (statuses {v = v} (ready (sent k)) (some fifo w n i) b z t) = rw (next-byte v b) (statuses look (some fifo w n i) (tail-bytes v b) z t)
+  work-step (statuses {v = v} (ready (sent k)) (none e) b z t) = rw (next-byte v b) (statuses look (none e) (tail-bytes v b) z t)
+  work-step (ends fifo look w n i b z) = ends fifo (polls-look _ _ _ _ _ _ _ (λ u c. refl) (λ u c. refl)) w n i b z
   work-step (ends fifo (seen k) w n i b z) = rw (small-address k) (ends fifo (ready k) w n i b z)
-  work-step (ends [] (ready taken) w n i b z) =
+  work-step (ends [] (ready (taken k)) w n i b z) =
       rw (empty-some n, front-is n, empty-none (popped n)) (told look (drained (empty-none (popped n))) (all-read w (one-taken _ [] i)) b z)
-  work-step (ends (y ∷ fifo) (ready taken) w n i b z) =
+  work-step (ends (y ∷ fifo) (ready (taken k)) w n i b z) =
       rw (empty-some n, front-is n, empty-some (popped n)) (ends fifo look w (popped n) (one-taken _ (y ∷ fifo) i) b z)
-  work-step (ends {v = v} fifo (ready sent) w n i b z) = rw (next-byte v b) (ends fifo look w n i b z)
-  work-step (told look q e b z) = told (polls-look _ _ _ _ _ _ _) q e b z
+  work-step (ends {v = v} fifo (ready (sent k)) w n i b z) = rw (next-byte v b) (ends fifo look w n i (tail-bytes v b) z)
+  work-step (told look unfixed e b z) = told (polls-quiet _ _ _ _ _ _) unfixed e b z
+  work-step (told {v = v} (ready (sent k)) unfixed e b z) = rw (next-byte v b) (told look unfixed e (tail-bytes v b) z)
+  work-step (told look (drained f) e b z) = told (polls-drained _ _ _ _ _ _ _ f) (drained f) e b z
+  work-step (told {v = v} (ready (sent k)) (drained f) e b z) = rw (next-byte v b) (told look (drained f) e (tail-bytes v b) z)
   work-step (told (seen k) q e b z) = rw (small-address k) (told (ready k) q e b z)
+  work-step (told (ready (taken k)) q e b z) = absurd (false≢true k)
   work-step (told (ready coded) q e b z) = calm (reading (final-plays _ refl z) before) q e b
-  work-step (told (ready taken) unfixed e b z) = told look unfixed e b z
-  work-step (told {v = v} (ready sent) unfixed e b z) = rw (next-byte v b) (told look unfixed e b z)
-  work-step (told (ready taken) (drained f) e b z) = rw f (told look (drained f) e b z)
-  work-step (told {v = v} (ready sent) (drained f) e b z) = rw (next-byte v b) (told look (drained f) e b z)
   work-step (calm (reading (puts {a = a} {b = x} u k p) before) q e b) = rw (lt-ltb a 256 (omega arith)) (calm (reading (puts u k p) aimed) q e b)
   work-step (calm (reading (puts {a = a} {b = x} u k p) aimed) q e b) =
       rw (lt-ltb x 256 k, lt-leb 0x1A a (omega arith), ne-eqb a 0x17 (omega arith), ne-eqb a 0x18 (omega arith), ne-eqb a 0x19 (omega arith), stored-is) (calm (closes-on p) q e b)
   work-step (calm (reading (gets {a = a} u p) before) q e b) = rw (lt-ltb a 256 (omega arith)) (calm (reading (gets u p) aimed) q e b)
   work-step (calm (reading (gets {a = a} u p) aimed) q e b) = rw (lt-leb 0x1A a (omega arith), ne-eqb a 0x17 (omega arith), ne-eqb a 0x18 (omega arith), ne-eqb a 0x19 (omega arith)) (calm (closes-on p) q e b)
-  work-step (calm (resting look n) q e b) = calm (resting (polls-look _ _ _ _ _ _ _) n) q e b
+  work-step (calm (resting look n) unfixed e b) = calm (resting (polls-quiet _ _ _ _ _ _) n) unfixed e b
+  work-step (calm {v = v} (resting (ready (sent k)) n) unfixed e b) = rw (next-byte v b) (calm (resting look n) unfixed e (tail-bytes v b))
+  work-step (calm (resting look n) (drained f) e b) = calm (resting (polls-drained _ _ _ _ _ _ _ f) n) (drained f) e b
+  work-step (calm {v = v} (resting (ready (sent k)) n) (drained f) e b) = rw (next-byte v b) (calm (resting look n) (drained f) e (tail-bytes v b))
   work-step (calm (resting (seen k) n) q e b) = rw (small-address k) (calm (resting (ready k) n) q e b)
-  work-step (calm (resting (ready taken) n) unfixed e b) = calm (resting look n) unfixed e b
-  work-step (calm {v = v} (resting (ready sent) n) unfixed e b) = rw (next-byte v b) (calm (resting look n) unfixed e b)
-  work-step (calm (resting (ready taken) n) (drained f) e b) = rw f (calm (resting look n) (drained f) e b)
-  work-step (calm {v = v} (resting (ready sent) n) (drained f) e b) = rw (next-byte v b) (calm (resting look n) (drained f) e b)
+  work-step (calm (resting (ready (taken k)) n) q e b) = absurd (false≢true k)
   work-step (gone (reading (puts {a = a} {b = x} u k p) before) q e b) = rw (lt-ltb a 256 (omega arith)) (gone (reading (puts u k p) aimed) q e b)
   work-step (gone (reading (puts {a = a} {b = x} u k p) aimed) q e b) =
       rw (lt-ltb x 256 k, lt-leb 0x1A a (omega arith), ne-eqb a 0x17 (omega arith), ne-eqb a 0x18 (omega arith), ne-eqb a 0x19 (omega arith), stored-is) (gone (closes-on p) q e b)
   work-step (gone (reading (gets {a = a} u p) before) q e b) = rw (lt-ltb a 256 (omega arith)) (gone (reading (gets u p) aimed) q e b)
   work-step (gone (reading (gets {a = a} u p) aimed) q e b) = rw (lt-leb 0x1A a (omega arith), ne-eqb a 0x17 (omega arith), ne-eqb a 0x18 (omega arith), ne-eqb a 0x19 (omega arith)) (gone (closes-on p) q e b)
-  work-step (gone (resting look n) q e b) = gone (resting (polls-look _ _ _ _ _ _ _) n) q e b
+  work-step (gone (resting look n) unfixed e b) = gone (resting (polls-quiet _ _ _ _ _ _) n) unfixed e b
+  work-step (gone {v = v} (resting (ready (sent k)) n) unfixed e b) = rw (next-byte v b) (gone (resting look n) unfixed e (tail-bytes v b))
+  work-step (gone (resting look n) (drained f) e b) = gone (resting (polls-drained _ _ _ _ _ _ _ f) n) (drained f) e b
+  work-step (gone {v = v} (resting (ready (sent k)) n) (drained f) e b) = rw (next-byte v b) (gone (resting look n) (drained f) e (tail-bytes v b))
   work-step (gone (resting (seen k) n) q e b) = rw (small-address k) (gone (resting (ready k) n) q e b)
-  work-step (gone (resting (ready taken) n) unfixed e b) = gone (resting look n) unfixed e b
-  work-step (gone {v = v} (resting (ready sent) n) unfixed e b) = rw (next-byte v b) (gone (resting look n) unfixed e b)
-  work-step (gone (resting (ready taken) n) (drained f) e b) = rw f (gone (resting look n) (drained f) e b)
-  work-step (gone {v = v} (resting (ready sent) n) (drained f) e b) = rw (next-byte v b) (gone (resting look n) (drained f) e b)
+  work-step (gone (resting (ready (taken k)) n) q e b) = absurd (false≢true k)
   work-step (gone (resting (ready coded) n) q e b) = rests look n q e b
-  work-step (rests look n q e b) = rests (polls-look _ _ _ _ _ _ _) n q e b
+  work-step (rests look n unfixed e b) = rests (polls-quiet _ _ _ _ _ _) n unfixed e b
+  work-step (rests {v = v} (ready (sent k)) n unfixed e b) = rw (next-byte v b) (rests look n unfixed e (tail-bytes v b))
+  work-step (rests look n (drained f) e b) = rests (polls-drained _ _ _ _ _ _ _ f) n (drained f) e b
+  work-step (rests {v = v} (ready (sent k)) n (drained f) e b) = rw (next-byte v b) (rests look n (drained f) e (tail-bytes v b))
   work-step (rests (seen k) n q e b) = rw (small-address k) (rests (ready k) n q e b)
-  work-step (rests (ready taken) n unfixed e b) = rests look n unfixed e b
-  work-step (rests {v = v} (ready sent) n unfixed e b) = rw (next-byte v b) (rests look n unfixed e b)
-  work-step (rests (ready taken) n (drained f) e b) = rw f (rests look n (drained f) e b)
-  work-step (rests {v = v} (ready sent) n (drained f) e b) = rw (next-byte v b) (rests look n (drained f) e b)
+  work-step (rests (ready (taken k)) n q e b) = absurd (false≢true k)

@@ -103,18 +103,13 @@ unfoldable pub sending : Host → Host
 sending h =
     record { todo = h .todo; pointed = h .pointed; phase = h .phase; give = tail (h .give); got = h .got; noted = h .noted }
 
--- an access was made; done says whether it was answered Done, v is the answer's value
-unfoldable pub made : Program → Access → (done : Bool) → ℕ → Host → Host
-made g (put a b) true v h = h
-made g (get a) true v h = noting (note a v) h
-made g code true v h = g .heard v h
-made g take true v h = taking v h
-made g send true v h = sending h
-made g (put a b) false v h = h
-made g (get a) false v h = h
-made g code false v h = h
-made g take false v h = h
-made g send false v h = h
+-- an access was made, and v is the value that came back: all that a host sees of an answer
+unfoldable pub made : Program → Access → ℕ → Host → Host
+made g (put a b) v h = h
+made g (get a) v h = noting (note a v) h
+made g code v h = g .heard v h
+made g take v h = taking v h
+made g send v h = sending h
 
 -- registers a, a + 1, ..
 abbrev pub puts : ℕ → List ℕ → List Access

@@ -151,7 +151,7 @@ module _ (does : Call → State → Outcome) (g : Program) where
       o c
 
   unfoldable pub accessing : Access → List Access → Outcome → Scene → Scene
-  accessing x l o c = hosted (made g x (took o) (valued o) (planned l (c .host))) o c
+  accessing x l o c = hosted (made g x (valued o) (planned l (c .host))) o c
 
   unfoldable pub accessBy : List Access → Bool → Scene → Scene
   accessBy [] pointed c = looking (does auxiliary (c .chip)) c
