@@ -4,9 +4,12 @@
 CC ?= gcc
 CFLAGS = -O2 -std=c11 -Wall -Wextra -Werror -Iinclude
 NATIVE = build/$(shell uname -m)-unknown-linux-gnu/libam33c93a.a
+CARGO = cargo --offline
+# All of cargo's output goes below build/, by the absolute name that cargo wants from every folder.
+CARGO_OUT = $(CURDIR)/build/cargo
 CODE = crates.txt $(shell find crates -name '*.rt' -o -name '*.antt')
 
-# How many calls the differential run makes, and its seed.
+# How many calls each differential run makes, and its seed.
 CALLS ?= 10000000
 SEED ?= 1
 
@@ -37,12 +40,14 @@ test:
 	@$(MAKE) --no-print-directory outside
 	@cat build/ci.log
 
-# Tests of the compiled library: refusals at its boundary, the paper's sessions, and an independent model in C (bench/plain.c).
-outside: build/refusals build/sessions build/plain_sessions build/differential build/board
+# Tests of the compiled library: refusals at its boundary, the paper's sessions, and two independent models, one in C
+# (bench/plain.c) and one in Rust (tests/model).
+outside: build/refusals build/sessions build/plain_sessions build/differential build/against_model build/board
 	@build/refusals
 	@build/plain_sessions
 	@build/sessions
 	@build/differential $(SEED) $(CALLS)
+	@build/against_model $(SEED) $(CALLS)
 	@build/board > build/board.out && tail -n 2 build/board.out
 
 build/board: examples/board.c include/am33c93a.h $(NATIVE)
@@ -60,6 +65,11 @@ build/plain_sessions: tests/plain_sessions.c bench/plain.c bench/plain.h include
 
 build/differential: tests/differential.c bench/plain.c bench/plain.h include/am33c93a.h $(NATIVE)
 	@$(CC) $(CFLAGS) -o $@ $< bench/plain.c $(NATIVE)
+
+build/against_model: $(wildcard tests/model/src/*.rs tests/model/Cargo.* tests/against_model/src/*.rs) \
+		$(wildcard tests/against_model/Cargo.* tests/against_model/*.rs tests/against_model/*.txt) $(NATIVE)
+	@cd tests/against_model && AM33C93A_LIB_DIR=$(CURDIR)/$(dir $(NATIVE)) $(CARGO) build -q --release --target-dir $(CARGO_OUT)
+	@cp $(CARGO_OUT)/release/against_model $@
 
 # Nanoseconds for each call, and the ratio to the independent model over a struct.
 bench: build/bench
