@@ -3,6 +3,8 @@
 
 CC ?= gcc
 CFLAGS = -O2 -std=c11 -Wall -Wextra -Werror -Iinclude
+# The C of the tests runs under the address and undefined behaviour sanitizers; the first finding stops it.
+CHECKED = $(CFLAGS) -g -fsanitize=address,undefined -fno-sanitize-recover=all
 NATIVE = build/$(shell uname -m)-unknown-linux-gnu/libam33c93a.a
 CARGO = cargo --offline
 # All of cargo's output goes below build/, by the absolute name that cargo wants from every folder.
@@ -40,31 +42,38 @@ test:
 	@$(MAKE) --no-print-directory outside
 	@cat build/ci.log
 
-# Tests of the compiled library: refusals at its boundary, the paper's sessions, and two independent models, one in C
+# Tests of the compiled library: its boundary and the refusals there, the paper's sessions, and two independent models, one in C
 # (bench/plain.c) and one in Rust (tests/model).
-outside: build/refusals build/sessions build/plain_sessions build/differential build/against_model build/board
+outside: build/boundary build/refusals build/sessions build/plain_sessions build/differential build/against_model build/checked_board
+	@build/boundary
 	@build/refusals
 	@build/plain_sessions
 	@build/sessions
 	@build/differential $(SEED) $(CALLS)
 	@build/against_model $(SEED) $(CALLS)
-	@build/board > build/board.out && tail -n 2 build/board.out
+	@build/checked_board > build/board.out && tail -n 2 build/board.out
 
 build/board: examples/board.c include/am33c93a.h $(NATIVE)
 	@$(CC) $(CFLAGS) -o $@ $< $(NATIVE)
 
+build/checked_board: examples/board.c include/am33c93a.h $(NATIVE)
+	@$(CC) $(CHECKED) -o $@ $< $(NATIVE)
+
+build/boundary: tests/boundary.c include/am33c93a.h $(NATIVE)
+	@$(CC) $(CHECKED) -o $@ $< $(NATIVE)
+
 build/refusals: tests/refusals.c include/am33c93a.h $(NATIVE)
-	@$(CC) $(CFLAGS) -o $@ $< $(NATIVE)
+	@$(CC) $(CHECKED) -o $@ $< $(NATIVE)
 
 build/sessions: tests/plain_sessions.c include/am33c93a.h $(NATIVE)
-	@$(CC) $(CFLAGS) -DLIBRARY -o $@ $< $(NATIVE)
+	@$(CC) $(CHECKED) -DLIBRARY -o $@ $< $(NATIVE)
 
 build/plain_sessions: tests/plain_sessions.c bench/plain.c bench/plain.h include/am33c93a.h
 	@mkdir -p build
-	@$(CC) $(CFLAGS) -o $@ $< bench/plain.c
+	@$(CC) $(CHECKED) -o $@ $< bench/plain.c
 
 build/differential: tests/differential.c bench/plain.c bench/plain.h include/am33c93a.h $(NATIVE)
-	@$(CC) $(CFLAGS) -o $@ $< bench/plain.c $(NATIVE)
+	@$(CC) $(CHECKED) -o $@ $< bench/plain.c $(NATIVE)
 
 build/against_model: $(wildcard tests/model/src/*.rs tests/model/Cargo.* tests/against_model/src/*.rs) \
 		$(wildcard tests/against_model/Cargo.* tests/against_model/*.rs tests/against_model/*.txt) $(NATIVE)
