@@ -1,5 +1,5 @@
 # The two commands of README.md are `make demo` and `make test`; both do all their set-up themselves.
-.PHONY: demo test outside lib native bench clean
+.PHONY: demo test outside lib native bench speed clean
 
 CC ?= gcc
 CFLAGS = -O2 -std=c11 -Wall -Wextra -Werror -Iinclude
@@ -80,12 +80,21 @@ build/against_model: $(wildcard tests/model/src/*.rs tests/model/Cargo.* tests/a
 	@cd tests/against_model && AM33C93A_LIB_DIR=$(CURDIR)/$(dir $(NATIVE)) $(CARGO) build -q --release --target-dir $(CARGO_OUT)
 	@cp $(CARGO_OUT)/release/against_model $@
 
-# Nanoseconds for each call, and the ratio to the independent model over a struct.
+# Nanoseconds for each call, and the ratios to the two plain models. `make speed` writes what it prints into docs/SPEED.md.
 bench: build/bench
 	@build/bench
 
-build/bench: bench/bench.c bench/work.h bench/plain.c bench/plain.h include/am33c93a.h $(NATIVE)
-	@$(CC) $(CFLAGS) -o $@ $< bench/plain.c $(NATIVE)
+speed: build/bench
+	@tools/write-speed
+
+MODEL_C = $(CARGO_OUT)/release/libmodel_c.a
+
+build/bench: bench/bench.c bench/work.h bench/plain.c bench/plain.h bench/model.h include/am33c93a.h $(MODEL_C) $(NATIVE)
+	@$(CC) $(CFLAGS) -o $@ $< bench/plain.c $(MODEL_C) $(NATIVE)
+
+$(MODEL_C): $(wildcard tests/model/src/*.rs tests/model/Cargo.* bench/model_c/src/*.rs bench/model_c/Cargo.*)
+	@cd bench/model_c && $(CARGO) build -q --release --target-dir $(CARGO_OUT)
+	@touch $@
 
 clean:
 	rm -rf build target
