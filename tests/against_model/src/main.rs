@@ -28,7 +28,7 @@ use std::process::ExitCode;
 
 /// A wrong model is caught within so many calls, and told in so few.
 const CAUGHT_WITHIN: u64 = 1_000_000;
-const SHORT: usize = 40;
+const SHORT: usize = 50;
 
 /// Plays episodes until a difference or until so many calls are made.
 fn run(seed: u64, calls: u64, mistake: Option<Mistake>, seen: &mut Seen) -> (u64, Option<Vec<Call>>) {
