@@ -3,7 +3,7 @@
 use crate::call::Call;
 use crate::noise;
 use crate::random::Random;
-use model::{command_size, Connection, Controller, Expected, Running, Way};
+use model::{Connection, Controller, Running, Way};
 use std::collections::VecDeque;
 
 const OWN_ID: u32 = 0x00;
@@ -19,6 +19,7 @@ const SCSI_STATUS: u32 = 0x17;
 const COMMAND: u32 = 0x18;
 const DATA: u32 = 0x19;
 
+const COMMAND_OUT: u32 = 2;
 const STATUS_IN: u32 = 3;
 const MESSAGE_OUT: u32 = 6;
 const MESSAGE_IN: u32 = 7;
@@ -295,7 +296,7 @@ impl Guide {
 
     fn transferring(&mut self, state: &Controller, turn: u32, random: &mut Random) {
         let is_left = state.left() > 0;
-        let phase = state.reported.map_or(0, |p| u32::from(p.number()));
+        let phase = reported(state);
         match turn {
             0..=399 if state.dbr() => self.move_data(state, random),
             0..=859 if is_left => self.request_data(state, phase, random),
@@ -322,23 +323,37 @@ impl Guide {
         }
     }
 
+    /// What a Target does next, whatever the host should do first.
+    pub fn target_turn(state: &Controller, random: &mut Random) -> Call {
+        let mut guide = Guide::default();
+        match (state.connection, state.running) {
+            (Connection::Selecting, _) => guide.push(Call::Answer),
+            (Connection::Waiting | Connection::Disconnected, _) => guide.reselect(state, random),
+            (_, Running::SelectAndTransfer { with_atn }) => guide.what_is_expected(state, with_atn, random),
+            (_, Running::TransferInfo) => guide.request_data(state, reported(state), random),
+            _ => guide.any_request(random),
+        }
+        guide.next.pop_front().unwrap_or(Call::Free)
+    }
+
+    /// By the phase register, as the paper lists it. The guide has a table of its own: one that it shared with the model would keep
+    /// the model's mistakes out of sight.
     fn what_is_expected(&mut self, state: &Controller, with_atn: bool, random: &mut Random) {
         let any = random.below(256);
         let is_odd = random.percent(5);
-        match state.expected(with_atn) {
-            Expected::IdentifyOut => self.request(MESSAGE_OUT, any, random),
-            Expected::CommandByte(x) => {
-                // A Target that takes fewer bytes than the size, now and then.
-                let cut = is_odd && command_size(state.registers[CDB_1 as usize]).is_some_and(|size| x + 1 == size);
-                self.request(if cut { STATUS_IN } else { 2 }, any, random)
-            }
-            Expected::Free => self.push(Call::Free),
-            Expected::IdentifyIn => {
-                let lun = u32::from(state.lun().number());
+        let size = [6, 10, 0, 0, 0, 12, 0, 0][usize::from(state.registers[CDB_1 as usize] >> 5)];
+        match state.registers[COMMAND_PHASE as usize] {
+            0x10 if with_atn => self.request(MESSAGE_OUT, any, random),
+            0x10 | 0x20 => self.request(COMMAND_OUT, any, random),
+            at @ 0x30..=0x3f if at & 0x0f < size => self.request(if is_odd { STATUS_IN } else { COMMAND_OUT }, any, random),
+            0x42 => self.push(Call::Free),
+            0x44 => {
+                let lun = u32::from(state.registers[TARGET_LUN as usize]) & 7;
                 self.request(MESSAGE_IN, if is_odd { any } else { 0x80 | lun }, random)
             }
-            Expected::CommandComplete => self.request(MESSAGE_IN, if is_odd { any & 7 } else { 0 }, random),
-            Expected::DataOrEnd if state.count > 0 && random.percent(85) => {
+            0x46 => self.request_end(random),
+            0x50 => self.request(MESSAGE_IN, if is_odd { any & 7 } else { 0 }, random),
+            _ if state.count > 0 && random.percent(85) => {
                 let comes_in = match state.way {
                     Way::In => 1,
                     Way::Out => 0,
@@ -346,11 +361,20 @@ impl Guide {
                 };
                 self.request_data(state, comes_in, random)
             }
-            Expected::DataOrEnd | Expected::End | Expected::Nothing => {
-                let message = random.one_of(&[4, 4, 4, 2, 2, 0, 3, any]);
-                let (phase, byte) = if random.percent(60) { (STATUS_IN, any) } else { (MESSAGE_IN, message) };
-                self.request(phase, byte, random)
-            }
+            _ => self.request_end(random),
         }
     }
+
+    /// Status, or a message before it.
+    fn request_end(&mut self, random: &mut Random) {
+        let any = random.below(256);
+        let message = random.one_of(&[4, 4, 4, 2, 2, 0, 3, any]);
+        let (phase, byte) = if random.percent(60) { (STATUS_IN, any) } else { (MESSAGE_IN, message) };
+        self.request(phase, byte, random)
+    }
+}
+
+/// The phase under transfer.
+fn reported(state: &Controller) -> u32 {
+    state.reported.map_or(0, |phase| phase.number().into())
 }

@@ -69,8 +69,9 @@ fn lent(pair: &Pair, guide: &mut Guide, random: &mut Random) -> Call {
             Call::Lend(images::near(&pair.library, random))
         }
         (35..=37, _) => Call::Lend(images::damaged(&pair.library, random)),
-        (38..=59, _) => noise(random),
-        (60, _) => Call::Fresh,
+        (38..=54, _) => noise(random),
+        (55, _) => Call::Fresh,
+        (56..=75, Some(state)) => Guide::target_turn(state, random),
         (_, Some(state)) => guide.next_call(state, random),
         (_, None) => noise(random),
     }

@@ -22,5 +22,4 @@ mod transfer_info;
 pub use answers::Answer;
 pub use fifo::{Fifo, FIFO_SIZE};
 pub use image::{Image, IMAGE_LENGTH};
-pub use select_and_transfer::{command_size, Expected};
 pub use state::{BusId, Connection, Controller, Lun, Parity, Pending, Phase, Running, Way};

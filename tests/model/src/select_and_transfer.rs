@@ -4,7 +4,7 @@ use crate::answers::Answer;
 use crate::state::{Connection, Controller, Parity, Pending, Phase, Way, CDB_1, TARGET_LUN};
 
 /// "its top three bits give 6, 10 or 12 bytes for groups 0, 1, 5"
-pub fn command_size(cdb_1: u8) -> Option<u8> {
+pub(crate) fn command_size(cdb_1: u8) -> Option<u8> {
     match cdb_1 >> 5 {
         0 => Some(6),
         1 => Some(10),
@@ -15,7 +15,7 @@ pub fn command_size(cdb_1: u8) -> Option<u8> {
 
 /// What a run expects next.
 #[derive(Clone, Copy, PartialEq, Eq, Debug)]
-pub enum Expected {
+enum Expected {
     /// Message Out takes our Identify.
     IdentifyOut,
     /// Command takes CDB byte x+1.
@@ -24,12 +24,11 @@ pub enum Expected {
     DataOrEnd,
     /// 46h: "Status or Message In"
     End,
-    /// 42h: a Free.
-    Free,
     /// 44h: the Target's Identify.
     IdentifyIn,
     /// 50h: Command Complete.
     CommandComplete,
+    /// No Request at all: 42h, where a Free is due, and every value that a run never sets.
     Nothing,
 }
 
@@ -37,14 +36,13 @@ const SAVE_POINTER: u8 = 0x02;
 const DISCONNECT: u8 = 0x04;
 
 impl Controller {
-    pub fn expected(&self, with_atn: bool) -> Expected {
+    fn expected(&self, with_atn: bool) -> Expected {
         match self.phase_register() {
             0x10 if with_atn => Expected::IdentifyOut,
             // "With 09, as 20h"
             0x10 | 0x20 => self.expected_after(0),
             at @ 0x30..=0x3f => self.expected_after(at & 0x0f),
             0x41 | 0x45 => Expected::DataOrEnd,
-            0x42 => Expected::Free,
             0x44 => Expected::IdentifyIn,
             0x46 => Expected::End,
             0x50 => Expected::CommandComplete,
