@@ -1,7 +1,10 @@
 //! An independent model of the Am33C93A, written from paper 01 and its readings, a file for each section of the paper.
 //!
-//! It shares nothing with the proved library but these and the form of an image (docs/IMAGE.md). tests/against_model makes the
-//! same calls to both and compares; bench/ measures the library beside it.
+//! It shares no code with the proved library. The form of an image is docs/IMAGE.md's, and states that no calls reach are treated
+//! as docs/DECISIONS.md says. Where these and the paper leave something open, ten small places, it was made to follow the library
+//! after the two had differed: tests/against_model/cases.txt names each, and there agreement says less.
+//!
+//! tests/against_model makes the same calls to both and compares; bench/ measures the library beside it.
 //!
 //! Public are the entries (entries.rs), with operands as plain as C gives them, the image (image.rs), and the fields of a state,
 //! which a guide looks at to choose the next call.
