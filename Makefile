@@ -1,12 +1,23 @@
 # The two commands of README.md are `make demo` and `make test`; both do all their set-up themselves.
-.PHONY: demo test outside lib native bench clean
+.PHONY: demo test outside lib native install bench speed clean
 
 CC ?= gcc
 CFLAGS = -O2 -std=c11 -Wall -Wextra -Werror -Iinclude
+# The C of the tests runs under the address and undefined behaviour sanitizers; the first finding stops it.
+CHECKED = $(CFLAGS) -g -fsanitize=address,undefined -fno-sanitize-recover=all
 NATIVE = build/$(shell uname -m)-unknown-linux-gnu/libam33c93a.a
+CARGO = cargo --offline
+# All of cargo's output goes below build/, by the absolute name that cargo wants from every folder.
+CARGO_OUT = $(CURDIR)/build/cargo
+LENT = AM33C93A_LIB_DIR=$(CURDIR)/$(dir $(NATIVE))
 CODE = crates.txt $(shell find crates -name '*.rt' -o -name '*.antt')
 
-# How many calls the differential run makes, and its seed.
+# Where `make install` puts header, libraries and am33c93a.pc; DESTDIR stands before it and into no file.
+PREFIX ?= /usr/local
+VERSION = 0.1
+INTO = $(DESTDIR)$(PREFIX)
+
+# How many calls each differential run makes, and its seed.
 CALLS ?= 10000000
 SEED ?= 1
 
@@ -26,6 +37,17 @@ lib: $(NATIVE)
 
 native: $(NATIVE)
 
+# The library for this machine, and below lib/am33c93a those for other processors that `make lib` has built.
+install: $(NATIVE)
+	@install -d "$(INTO)/include" "$(INTO)/lib/pkgconfig"
+	@install -m 644 include/am33c93a.h "$(INTO)/include/"
+	@install -m 644 $(NATIVE) "$(INTO)/lib/"
+	@sed -e 's|@PREFIX@|$(PREFIX)|' -e 's|@VERSION@|$(VERSION)|' am33c93a.pc.in > "$(INTO)/lib/pkgconfig/am33c93a.pc"
+	@chmod 644 "$(INTO)/lib/pkgconfig/am33c93a.pc"
+	@for a in $(filter-out $(NATIVE),$(wildcard build/*/libam33c93a.a)); do \
+		install -D -m 644 $$a "$(INTO)/lib/am33c93a/$$(basename $$(dirname $$a))/libam33c93a.a" || exit 1; done
+	@echo "$(INTO)"
+
 $(NATIVE): tools/native-lib $(CODE)
 	@tools/native-lib
 
@@ -38,15 +60,21 @@ test:
 	@$(MAKE) --no-print-directory outside
 	@cat build/ci.log
 
-# Tests of the compiled library: refusals at its boundary, the paper's sessions, and an independent model in C (bench/plain.c).
-outside: build/refusals build/sessions build/plain_sessions build/differential build/board build/first
+# Tests of the compiled library: its boundary and the refusals there, the paper's sessions, two independent models, one in C
+# (bench/plain.c) and one in Rust (tests/model), the wrapper for Rust, and the installation.
+outside: build/boundary build/refusals build/sessions build/plain_sessions build/differential build/against_model build/checked_board build/first
+	@build/boundary
 	@build/refusals
 	@build/plain_sessions
 	@build/sessions
 	@build/differential $(SEED) $(CALLS)
+	@build/against_model $(SEED) $(CALLS)
 	@build/first
-	@build/board > build/board.out && tail -n 2 build/board.out
-	@build/board --driver linux > build/board-linux.out && tail -n 2 build/board-linux.out
+	@build/checked_board > build/board.out && tail -n 2 build/board.out
+	@build/checked_board --driver linux > build/board-linux.out && tail -n 2 build/board-linux.out
+	@cd rust && $(LENT) $(CARGO) test -q --target-dir $(CARGO_OUT) > $(CURDIR)/build/wrapper.log 2>&1 || { cat $(CURDIR)/build/wrapper.log; exit 1; }
+	@awk '/^test result/ { passed += $$4; failed += $$6 } END { print "wrapper for Rust: " passed " passed, " failed " failed" }' build/wrapper.log
+	@tests/install
 
 build/board: examples/board.c include/am33c93a.h $(NATIVE)
 	@$(CC) $(CFLAGS) -o $@ $< $(NATIVE)
@@ -56,25 +84,45 @@ build/first: README.md include/am33c93a.h $(NATIVE)
 	@sed -n '/^```c$$/,/^```$$/p' README.md | sed '1d;$$d' > build/first.c
 	@$(CC) $(CFLAGS) -o $@ build/first.c $(NATIVE)
 
+build/checked_board: examples/board.c include/am33c93a.h $(NATIVE)
+	@$(CC) $(CHECKED) -o $@ $< $(NATIVE)
+
+build/boundary: tests/boundary.c include/am33c93a.h $(NATIVE)
+	@$(CC) $(CHECKED) -o $@ $< $(NATIVE)
+
 build/refusals: tests/refusals.c include/am33c93a.h $(NATIVE)
-	@$(CC) $(CFLAGS) -o $@ $< $(NATIVE)
+	@$(CC) $(CHECKED) -o $@ $< $(NATIVE)
 
 build/sessions: tests/plain_sessions.c include/am33c93a.h $(NATIVE)
-	@$(CC) $(CFLAGS) -DLIBRARY -o $@ $< $(NATIVE)
+	@$(CC) $(CHECKED) -DLIBRARY -o $@ $< $(NATIVE)
 
 build/plain_sessions: tests/plain_sessions.c bench/plain.c bench/plain.h include/am33c93a.h
 	@mkdir -p build
-	@$(CC) $(CFLAGS) -o $@ $< bench/plain.c
+	@$(CC) $(CHECKED) -o $@ $< bench/plain.c
 
 build/differential: tests/differential.c bench/plain.c bench/plain.h include/am33c93a.h $(NATIVE)
-	@$(CC) $(CFLAGS) -o $@ $< bench/plain.c $(NATIVE)
+	@$(CC) $(CHECKED) -o $@ $< bench/plain.c $(NATIVE)
 
-# Nanoseconds for each call, and the ratio to the independent model over a struct.
+build/against_model: $(wildcard tests/model/src/*.rs tests/model/Cargo.* tests/against_model/src/*.rs) \
+		$(wildcard tests/against_model/Cargo.* tests/against_model/*.rs tests/against_model/*.txt) $(NATIVE)
+	@cd tests/against_model && $(LENT) $(CARGO) build -q --release --target-dir $(CARGO_OUT)
+	@cp $(CARGO_OUT)/release/against_model $@
+
+# Nanoseconds for each call, and the ratios to the two plain models. `make speed` writes what it prints into docs/SPEED.md.
 bench: build/bench
 	@build/bench
 
-build/bench: bench/bench.c bench/work.h bench/plain.c bench/plain.h include/am33c93a.h $(NATIVE)
-	@$(CC) $(CFLAGS) -o $@ $< bench/plain.c $(NATIVE)
+speed: build/bench
+	@tools/write-speed
+
+MODEL_C = $(CARGO_OUT)/release/libmodel_c.a
+
+build/bench: bench/bench.c bench/work.h bench/plain.c bench/plain.h bench/model.h include/am33c93a.h $(MODEL_C) $(NATIVE)
+	@$(CC) $(CFLAGS) -o $@ $< bench/plain.c $(MODEL_C) $(NATIVE)
+
+$(MODEL_C): $(wildcard tests/model/src/*.rs tests/model/Cargo.* bench/model_c/src/*.rs bench/model_c/Cargo.*)
+	@cd bench/model_c && $(CARGO) build -q --release --target-dir $(CARGO_OUT)
+	@touch $@
 
 clean:
 	rm -rf build target

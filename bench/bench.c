@@ -1,8 +1,9 @@
-/* The speed of the library beside the plain C model of plain.c: nanoseconds per call, and how many times slower.
+/* The speed of the library beside two plain models of the same paper: tests/model in Rust (behind the C entries of model_c) and
+ * plain.c over a C struct. Nanoseconds per call, and how many times slower the library is.
  *
- *     gcc -O2 -std=c11 -Wall -Wextra -Werror -Iinclude -o bench bench/bench.c bench/plain.c libam33c93a.a
+ *     gcc -O2 -std=c11 -Wall -Wextra -Werror -Iinclude -o bench bench/bench.c bench/plain.c libmodel_c.a libam33c93a.a
  *
- * Both sides are called across translation units, with the same calls (work.h), and must give the same results. */
+ * All sides are called across translation units, with the same calls (work.h), and must give the same results. */
 #define _GNU_SOURCE
 #include <sched.h>
 #include <stdint.h>
@@ -10,11 +11,26 @@
 #include <string.h>
 #include <time.h>
 #include "am33c93a.h"
+#include "model.h"
 #include "plain.h"
 
-enum { COPIES = 64 };
+enum { COPIES = 64, MEBIBYTE = 1 << 20 };
 
 static uint8_t slice[4096];
+static uint8_t sent[MEBIBYTE], received[MEBIBYTE];
+
+static size_t at_most_4096(size_t n)
+{
+    return n < 4096 ? n : 4096;
+}
+
+/* A number that says whether all bytes arrived; they are wiped for the next time. */
+static uint32_t arrived(void)
+{
+    uint32_t all = memcmp(sent, received, MEBIBYTE) == 0 ? 1 : 0xBAD;
+    memset(received, 0, sizeof received);
+    return all;
+}
 
 static uint8_t library_state[AM33C93A_IMAGE_LENGTH], library_saved[AM33C93A_IMAGE_LENGTH];
 static uint8_t library_copies[COPIES][AM33C93A_IMAGE_LENGTH];
@@ -23,6 +39,18 @@ static uint8_t library_copies[COPIES][AM33C93A_IMAGE_LENGTH];
 #define STATE library_state, AM33C93A_IMAGE_LENGTH
 #define COPY(i) library_copies[i], AM33C93A_IMAGE_LENGTH
 #define library_at_pointer library_state[25] /* docs/IMAGE.md */
+#include "work.h"
+#undef SIDE
+#undef ENTRY
+#undef STATE
+#undef COPY
+
+static struct model model_state, model_saved, model_copies[COPIES];
+#define SIDE(name) model_##name
+#define ENTRY(name) model_##name
+#define STATE &model_state
+#define COPY(i) &model_copies[i]
+#define model_at_pointer model_state.bytes[0]
 #include "work.h"
 #undef SIDE
 #undef ENTRY
@@ -47,14 +75,24 @@ struct side {
     uint32_t (*restoring)(long n); /* null: nothing to subtract */
 };
 
+enum { LIBRARY, MODEL, PLAIN, SIDES };
+
 struct item {
     const char *name;
-    struct side library, yardstick;
+    long least; /* turns of the shortest run */
+    struct side sides[SIDES];
 };
 
-#define ITEM(name, from, work) {name, {library_##from, library_##work, NULL}, {yardstick_##from, yardstick_##work, NULL}}
-#define RESTORED(name, from, work)                                                                                            \
-    {name, {library_##from, library_##work, library_restoring}, {yardstick_##from, yardstick_##work, yardstick_restoring}}
+#define ITEM_OF(name, least, from, work)                                                                                        \
+    {name, least,                                                                                                                \
+     {{library_##from, library_##work, NULL}, {model_##from, model_##work, NULL}, {yardstick_##from, yardstick_##work, NULL}}}
+#define ITEM(name, from, work) ITEM_OF(name, 16 * COPIES, from, work)
+#define WHOLE(name, work) ITEM_OF(name, 1, from_fresh, work)
+#define RESTORED(name, from, work)                                                                                              \
+    {name, 16 * COPIES,                                                                                                          \
+     {{library_##from, library_##work, library_restoring},                                                                       \
+      {model_##from, model_##work, model_restoring},                                                                             \
+      {yardstick_##from, yardstick_##work, yardstick_restoring}}}
 
 static const struct item items[] = {
     ITEM("pointer set", from_fresh, pointer_set),
@@ -63,6 +101,8 @@ static const struct item items[] = {
     ITEM("register write, 00 to 16h", from_fresh, register_write),
     ITEM("polled byte in, four calls", from_in, polled_in),
     ITEM("polled byte out, four calls", from_out, polled_out),
+    ITEM("Request and data read, two calls", from_in, request_and_read),
+    ITEM("data write and Request, two calls", from_out, write_and_request),
     ITEM("time, 0 units, selecting", from_selecting, time_passes),
     RESTORED("answer, to 08 (restored)", from_selecting, answered),
     ITEM("reselection ignored", from_fresh, reselection_ignored),
@@ -74,6 +114,10 @@ static const struct item items[] = {
     RESTORED("block out, 1 byte (restored)", from_out, out_1),
     RESTORED("block out, 12 bytes (restored)", from_out, out_12),
     RESTORED("block out, 4096 bytes, room for 12 (restored)", from_out, out_4096),
+    WHOLE("1 MiB in, polled", mebibyte_in_polled),
+    WHOLE("1 MiB in, by blocks", mebibyte_in_by_blocks),
+    WHOLE("1 MiB out, polled", mebibyte_out_polled),
+    WHOLE("1 MiB out, by blocks", mebibyte_out_by_blocks),
 };
 
 static volatile uint32_t sink;
@@ -93,30 +137,41 @@ static double once(const struct side *s, uint32_t (*work)(long n), long n)
     return seconds() - start;
 }
 
-/* Nanoseconds for one turn of the work: best of 5 runs of more than 50 ms each. */
-static double best(const struct side *s, uint32_t (*work)(long n))
+enum { ROUNDS = 7 };
+
+/* How many turns take more than 55 ms. */
+static long enough(const struct side *s, uint32_t (*work)(long n), long n)
 {
-    long n = 16 * COPIES;
     while (once(s, work, n) < 0.055) n *= 2;
-    double least = once(s, work, n);
-    for (int run = 1; run < 5; run++) {
-        double t = once(s, work, n);
-        if (t < least) least = t;
-    }
-    return least / (double)n * 1e9;
+    return n;
 }
 
-static double measure(const struct side *s)
+/* Nanoseconds for one turn on each side: best of the rounds. The sides take turns, so that other work on the machine meets all. */
+static void measure(const struct item *item, double times[SIDES])
 {
-    double t = best(s, s->work);
-    return s->restoring ? t - best(s, s->restoring) : t;
+    double work[SIDES], restoring[SIDES];
+    long n[SIDES], m[SIDES];
+    for (int k = 0; k < SIDES; k++) {
+        const struct side *s = &item->sides[k];
+        n[k] = enough(s, s->work, item->least);
+        m[k] = s->restoring ? enough(s, s->restoring, item->least) : 1;
+        work[k] = restoring[k] = 1e9;
+    }
+    for (int round = 0; round < ROUNDS; round++)
+        for (int k = 0; k < SIDES; k++) {
+            const struct side *s = &item->sides[k];
+            double t = once(s, s->work, n[k]), r = s->restoring ? once(s, s->restoring, m[k]) : 0;
+            if (t < work[k]) work[k] = t;
+            if (r < restoring[k]) restoring[k] = r;
+        }
+    for (int k = 0; k < SIDES; k++) times[k] = (work[k] / (double)n[k] - restoring[k] / (double)m[k]) * 1e9;
 }
 
-static uint32_t trial(const struct side *s)
+static uint32_t trial(const struct side *s, long n)
 {
     for (size_t i = 0; i < sizeof slice; i++) slice[i] = (uint8_t)i;
     s->from();
-    uint32_t sum = s->work(16 * COPIES);
+    uint32_t sum = s->work(n);
     for (size_t i = 0; i < sizeof slice; i++) sum = sum * 31 + slice[i];
     return sum;
 }
@@ -132,21 +187,36 @@ static void stay_here(void)
     sched_setaffinity(0, sizeof set, &set);
 }
 
+/* A mebibyte is told in milliseconds. */
+static void print_time(double nanoseconds)
+{
+    if (nanoseconds < 1e5) printf(" %9.2f   ", nanoseconds);
+    else printf(" %9.2f ms", nanoseconds * 1e-6);
+}
+
 int main(void)
 {
     stay_here();
-    printf("make bench: nanoseconds per call, the library (an image of %d bytes lent to each call) and plain C (bench/plain.c);\n"
-           "one core, best of 5 runs; 'four calls' is for all four; 'restored': the state by memcpy, its own time subtracted\n",
+    for (size_t i = 0; i < sizeof sent; i++) sent[i] = (uint8_t)(i * 2654435761u >> 13);
+    printf("Nanoseconds per call: the library (an image of %d bytes lent to each call), the model in Rust and plain C over a struct.\n"
+           "One core, best of 7 runs. 'two calls', 'four calls': for all of them. 'restored': the state by memcpy, its own time\n"
+           "subtracted. 1 MiB: a whole Select-And-Transfer, each byte compared at the end; polled: Request, auxiliary read, access;\n"
+           "by blocks: slices of 4096 bytes lent, of which 12 move, then 12 Requests.\n",
            AM33C93A_IMAGE_LENGTH);
-    printf("%-46s %9s %9s %9s\n", "", "library", "plain", "ratio");
+    printf("%-46s %9s    %9s    %9s    %8s %8s\n", "", "library", "Rust", "C", "to Rust", "to C");
     for (size_t i = 0; i < sizeof items / sizeof items[0]; i++) {
         const struct item *item = &items[i];
-        if (trial(&item->library) != trial(&item->yardstick)) {
-            printf("bench: %s: the two sides give different results\n", item->name);
+        uint32_t sums[SIDES];
+        double times[SIDES];
+        for (int k = 0; k < SIDES; k++) sums[k] = trial(&item->sides[k], item->least);
+        if (sums[LIBRARY] != sums[MODEL] || sums[LIBRARY] != sums[PLAIN]) {
+            printf("bench: %s: the sides give different results\n", item->name);
             return 1;
         }
-        double library = measure(&item->library), plain = measure(&item->yardstick);
-        printf("%-46s %9.1f %9.2f %9.1f\n", item->name, library, plain, library / plain);
+        printf("%-46s", item->name);
+        measure(item, times);
+        for (int k = 0; k < SIDES; k++) print_time(times[k]);
+        printf(" %8.1f %8.1f\n", times[LIBRARY] / times[MODEL], times[LIBRARY] / times[PLAIN]);
         fflush(stdout);
     }
     return 0;

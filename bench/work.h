@@ -20,6 +20,12 @@ static inline void SIDE(restore)(void)
     memcpy(&SIDE(state), &SIDE(saved), sizeof SIDE(state));
 }
 
+static void SIDE(restore_at_data)(void)
+{
+    SIDE(restore)();
+    ENTRY(pointer)(STATE, 1, AM33C93A_DATA);
+}
+
 static void SIDE(from_fresh)(void)
 {
     ENTRY(fresh)(STATE);
@@ -130,6 +136,29 @@ static uint32_t SIDE(polled_out)(long n)
     return sum;
 }
 
+/* A Request and the data access that it makes due; the pointer stays at 19h. */
+static uint32_t SIDE(request_and_read)(long n)
+{
+    uint32_t sum = 0;
+    for (long i = 0; i < n; i++) {
+        if ((i & 0xfffff) == 0) SIDE(restore_at_data)();
+        sum += ENTRY(request)(STATE, AM33C93A_DATA_IN, (uint32_t)i & 0xff, 0);
+        sum += ENTRY(register)(STATE, 0, 0);
+    }
+    return sum;
+}
+
+static uint32_t SIDE(write_and_request)(long n)
+{
+    uint32_t sum = 0;
+    for (long i = 0; i < n; i++) {
+        if ((i & 0xfffff) == 0) SIDE(restore_at_data)();
+        sum += ENTRY(register)(STATE, 1, (uint32_t)i & 0xff);
+        sum += ENTRY(request)(STATE, AM33C93A_DATA_OUT, 0, 0);
+    }
+    return sum;
+}
+
 static uint32_t SIDE(time_passes)(long n)
 {
     uint32_t sum = 0;
@@ -197,4 +226,94 @@ static uint32_t SIDE(restoring)(long n)
 {
     for (long k = 0; k < n; k += COPIES) SIDE(restore_copies)();
     return 0;
+}
+
+/* A mebibyte end to end: one Select-And-Transfer, from the selection to the freed bus. */
+
+static void SIDE(commanded)(void)
+{
+    ENTRY(fresh)(STATE);
+    SIDE(write_at)(AM33C93A_COUNT_HIGH, MEBIBYTE >> 16);
+    SIDE(write_at)(AM33C93A_COMMAND, AM33C93A_SELECT_TRANSFER_WITH_ATN);
+    ENTRY(answer)(STATE);
+    ENTRY(request)(STATE, AM33C93A_MESSAGE_OUT, 0, 0);
+    for (int i = 0; i < 6; i++) ENTRY(request)(STATE, AM33C93A_COMMAND_OUT, 0, 0);
+    ENTRY(pointer)(STATE, 1, AM33C93A_DATA);
+}
+
+/* The two codes, 16h and 85h. */
+static uint32_t SIDE(completed)(void)
+{
+    uint32_t sum = ENTRY(request)(STATE, AM33C93A_STATUS_IN, 0, 0) + ENTRY(request)(STATE, AM33C93A_MESSAGE_IN, 0, 0);
+    ENTRY(pointer)(STATE, 1, AM33C93A_SCSI_STATUS);
+    sum += ENTRY(register)(STATE, 0, 0);
+    sum += ENTRY(free)(STATE);
+    ENTRY(pointer)(STATE, 1, AM33C93A_SCSI_STATUS);
+    return sum + ENTRY(register)(STATE, 0, 0);
+}
+
+static inline int SIDE(is_due)(void)
+{
+    return AM33C93A_VALUE(ENTRY(auxiliary)(STATE)) & AM33C93A_AUX_DBR;
+}
+
+/* For each byte a Request, a look at auxiliary status and an access. */
+static uint32_t SIDE(mebibyte_in_polled)(long n)
+{
+    uint32_t sum = 0;
+    for (long k = 0; k < n; k++) {
+        SIDE(commanded)();
+        for (size_t i = 0; i < MEBIBYTE; i++) {
+            ENTRY(request)(STATE, AM33C93A_DATA_IN, sent[i], 0);
+            if (SIDE(is_due)()) received[i] = (uint8_t)AM33C93A_VALUE(ENTRY(register)(STATE, 0, 0));
+        }
+        sum += SIDE(completed)() + arrived();
+    }
+    return sum;
+}
+
+static uint32_t SIDE(mebibyte_out_polled)(long n)
+{
+    uint32_t sum = 0;
+    for (long k = 0; k < n; k++) {
+        SIDE(commanded)();
+        sum += ENTRY(request)(STATE, AM33C93A_DATA_OUT, 0, 0);
+        for (size_t i = 0; i < MEBIBYTE; i++) {
+            if (SIDE(is_due)()) ENTRY(register)(STATE, 1, sent[i]);
+            received[i] = (uint8_t)AM33C93A_VALUE(ENTRY(request)(STATE, AM33C93A_DATA_OUT, 0, 0));
+        }
+        sum += SIDE(completed)() + arrived();
+    }
+    return sum;
+}
+
+/* The Target asks until it is held; then the host looks once and lends what is left, at most 4096 bytes, of which 12 move. */
+static uint32_t SIDE(mebibyte_in_by_blocks)(long n)
+{
+    uint32_t sum = 0;
+    for (long k = 0; k < n; k++) {
+        SIDE(commanded)();
+        for (size_t i = 0, got = 0; got < MEBIBYTE;) {
+            while (i < MEBIBYTE && ENTRY(request)(STATE, AM33C93A_DATA_IN, sent[i], 0) != AM33C93A_HELD) i++;
+            if (SIDE(is_due)()) got += AM33C93A_VALUE(ENTRY(block)(STATE, 0, received + got, at_most_4096(MEBIBYTE - got)));
+        }
+        sum += SIDE(completed)() + arrived();
+    }
+    return sum;
+}
+
+static uint32_t SIDE(mebibyte_out_by_blocks)(long n)
+{
+    uint32_t sum = 0;
+    for (long k = 0; k < n; k++) {
+        SIDE(commanded)();
+        sum += ENTRY(request)(STATE, AM33C93A_DATA_OUT, 0, 0);
+        for (size_t i = 0, put = 0; i < MEBIBYTE;) {
+            if (SIDE(is_due)()) put += AM33C93A_VALUE(ENTRY(block)(STATE, 1, sent + put, at_most_4096(MEBIBYTE - put)));
+            for (uint32_t r; i < MEBIBYTE && (r = ENTRY(request)(STATE, AM33C93A_DATA_OUT, 0, 0)) != AM33C93A_HELD; i++)
+                received[i] = (uint8_t)AM33C93A_VALUE(r);
+        }
+        sum += SIDE(completed)() + arrived();
+    }
+    return sum;
 }

@@ -1,0 +1,42 @@
+//! Every name of the C header's lists stands in src/names.rs with the same number, and no other.
+
+const HEADER: &str = include_str!("../../include/am33c93a.h");
+const NAMES: &str = include_str!("../src/names.rs");
+
+fn between(text: &'static str, start: &str, end: &str) -> &'static str {
+    let rest = text.split_once(start).unwrap_or_else(|| panic!("no {start:?}")).1;
+    rest.split_once(end).unwrap_or_else(|| panic!("no {end:?} after {start:?}")).0
+}
+
+fn number(text: &str) -> Option<u32> {
+    let digits = text.split([',', ';', ' ']).next()?;
+    match digits.strip_prefix("0x") {
+        Some(hex) => u32::from_str_radix(hex, 16).ok(),
+        None => digits.parse().ok(),
+    }
+}
+
+/// The lines `START NAME = NUMBER`, in order.
+fn listed(text: &str, start: &str) -> Vec<(String, u32)> {
+    let line = |line: &str| {
+        let (name, rest) = line.trim().strip_prefix(start)?.split_once(" = ")?;
+        Some((name.split(':').next()?.to_string(), number(rest)?))
+    };
+    text.lines().filter_map(line).collect()
+}
+
+#[test]
+fn the_header_and_the_wrapper_say_the_same() {
+    for (comment, prefix, module, length) in [
+        ("/* Auxiliary status. */", "AM33C93A_AUX_", "auxiliary", 6),
+        ("/* Register addresses. */", "AM33C93A_", "register", 15),
+        ("/* Commands;", "AM33C93A_", "command", 12),
+        ("/* Codes of SCSI status.", "AM33C93A_CODE_", "code", 16),
+        ("/* The value of am33c93a_lines.", "AM33C93A_LINES_", "line", 7),
+    ] {
+        let header = listed(between(HEADER, comment, "};"), prefix);
+        let here = listed(between(NAMES, &format!("pub mod {module} {{"), "\n}"), "pub const ");
+        assert_eq!(header, here, "{module}");
+        assert_eq!(header.len(), length, "{module}");
+    }
+}

@@ -1,0 +1,76 @@
+//! Images to lend: any state's, reached or not, one near a reached state, and bytes that are no image.
+
+use crate::random::Random;
+use model::{Image, IMAGE_LENGTH};
+
+/// Byte and first value out of range (docs/IMAGE.md).
+const LIMITS: [(usize, u32); 13] =
+    [(26, 2), (27, 2), (28, 4), (30, 4), (31, 6), (32, 3), (33, 2), (34, 2), (35, 2), (36, 9), (37, 9), (38, 8), (40, 13)];
+const PENDING: usize = 28;
+const ENDING_CODE: usize = 29;
+const WAITING: usize = 40;
+const FIFO: usize = 41;
+
+fn limit(at: usize) -> u32 {
+    LIMITS.iter().find(|(place, _)| *place == at).map_or(256, |(_, limit)| *limit)
+}
+
+/// Registers that lead somewhere, in place of random bytes.
+fn lead_on(image: &mut Image, random: &mut Random) {
+    let any = random.byte();
+    image[1] = random.one_of(&[0, 0, 1, 4, 5, any]);
+    image[3] = random.one_of(&[0, 0x20, 0xa0, any]);
+    image[16] = random.one_of(&[0x10, 0x20, 0x30, 0x35, 0x36, 0x3a, 0x3c, 0x41, 0x42, 0x44, 0x45, 0x46, 0x50, 0x60, any]);
+    image[18] = random.one_of(&[0, 0, 0, any]);
+    image[19] = random.one_of(&[0, 0, 0, any]);
+    image[20] = random.one_of(&[0, 1, 2, 12, any]);
+    image[22] = random.one_of(&[0x80, 0x80, 0, any]);
+    image[25] = random.one_of(&[0x17, 0x18, 0x19, any & 0x1f, any]);
+    image[28] = random.one_of(&[0, 0, 0, 1, 2, 3]);
+}
+
+/// Unused places to 0, an ending's code only with an ending.
+fn tidy(image: &mut Image) {
+    if image[PENDING] != 2 {
+        image[ENDING_CODE] = 0;
+    }
+    for place in FIFO + usize::from(image[WAITING]).min(12)..IMAGE_LENGTH {
+        image[place] = 0;
+    }
+}
+
+/// Any state's image.
+pub fn any_state(random: &mut Random) -> Image {
+    let mut image = [0; IMAGE_LENGTH];
+    for (at, byte) in image.iter_mut().enumerate() {
+        *byte = random.below(limit(at)) as u8;
+    }
+    if random.percent(85) {
+        lead_on(&mut image, random);
+    }
+    tidy(&mut image);
+    image
+}
+
+/// A few bytes of this image changed, within their ranges.
+pub fn near(image: &Image, random: &mut Random) -> Image {
+    let mut image = *image;
+    for _ in 0..1 + random.below(3) {
+        let at = random.below(IMAGE_LENGTH as u32) as usize;
+        image[at] = random.below(limit(at)) as u8;
+    }
+    tidy(&mut image);
+    image
+}
+
+/// One byte out of its range, or a byte where 0 must stand; now and then it is an image all the same.
+pub fn damaged(image: &Image, random: &mut Random) -> Image {
+    let mut image = *image;
+    let at = match random.below(3) {
+        0 => ENDING_CODE,
+        1 => FIFO + random.below(12) as usize,
+        _ => random.one_of(&LIMITS).0,
+    };
+    image[at] = random.byte();
+    image
+}

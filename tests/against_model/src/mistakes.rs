@@ -1,0 +1,138 @@
+//! Models that are wrong on purpose: the run has to catch each, or it proves nothing. The first four are the paper's "Readings to
+//! shut out"; then some of its programs that "have to fall"; then mistakes that are easily made.
+
+use crate::call::{Call, Slice};
+use model::{Answer, Connection, Controller, Pending, Running, Way};
+
+#[derive(Clone, Copy, PartialEq, Debug)]
+pub enum Mistake {
+    CountFallsOnHostWrite,
+    AuxiliaryReadClearsInt,
+    SuccessCodeBeforeReadOut,
+    ReportedByteTaken,
+    HoldsEveryEvent,
+    NodsAtAllButTheFirstByte,
+    TimeoutOneUnitLate,
+    ThirteenthByteAccepted,
+    PointerMovesAtData,
+    ReportedPhaseReportedAgain,
+    FreeKeepsAtn,
+    BadParityTakenWithHsp,
+    ResumeKeepsDirection,
+    WaitsBeforeReadOut,
+    ReturnForgetsDirection,
+    StatusKeepsOutgoingFifo,
+    LunTakenForBusIdentity,
+}
+
+impl Mistake {
+    pub const ALL: [Mistake; 17] = [
+        Mistake::CountFallsOnHostWrite,
+        Mistake::AuxiliaryReadClearsInt,
+        Mistake::SuccessCodeBeforeReadOut,
+        Mistake::ReportedByteTaken,
+        Mistake::HoldsEveryEvent,
+        Mistake::NodsAtAllButTheFirstByte,
+        Mistake::TimeoutOneUnitLate,
+        Mistake::ThirteenthByteAccepted,
+        Mistake::PointerMovesAtData,
+        Mistake::ReportedPhaseReportedAgain,
+        Mistake::FreeKeepsAtn,
+        Mistake::BadParityTakenWithHsp,
+        Mistake::ResumeKeepsDirection,
+        Mistake::WaitsBeforeReadOut,
+        Mistake::ReturnForgetsDirection,
+        Mistake::StatusKeepsOutgoingFifo,
+        Mistake::LunTakenForBusIdentity,
+    ];
+
+    /// The right call, and then what the mistake makes of it.
+    pub fn call(self, call: Call, state: &mut Controller, slice: &mut Slice) -> Answer {
+        let before = *state;
+        let answer = call.to_model(state, slice);
+        match (self, call, answer) {
+            (Mistake::CountFallsOnHostWrite, Call::Register { mark: 1, .. }, Answer::Done(_)) if before.pointer == 0x19 => {
+                state.count = state.count.saturating_sub(1);
+            }
+            (Mistake::CountFallsOnHostWrite, Call::Block { mark: 1, .. }, Answer::Done(moved)) => {
+                state.count = state.count.saturating_sub(moved);
+            }
+            (Mistake::AuxiliaryReadClearsInt, Call::Auxiliary, _) if state.has_interrupt() => state.pending = Pending::Nothing,
+            (Mistake::SuccessCodeBeforeReadOut, _, _) if state.pending == Pending::Ending(0x16) => {
+                state.pending = Pending::Interrupt;
+                state.code = 0x16;
+            }
+            (Mistake::ReportedByteTaken, Call::Request { phase, byte, .. }, Answer::Reported) if phase & 1 == 1 => {
+                return Answer::Done(byte);
+            }
+            (Mistake::HoldsEveryEvent, Call::Answer | Call::Free | Call::Request { .. }, Answer::Done(_)) => {
+                *state = before;
+                return Answer::Held;
+            }
+            (Mistake::NodsAtAllButTheFirstByte, Call::Block { mark: 1, .. }, Answer::Done(2..)) => {
+                *state = before;
+                state.block(1, &mut slice[..1]);
+            }
+            (Mistake::TimeoutOneUnitLate, Call::Time { units }, _) if before.connection == Connection::Selecting => {
+                let sum = u32::from(before.elapsed) + units;
+                if units > 0 && sum == u32::from(before.registers[2]) {
+                    *state = before;
+                    state.elapsed = sum as u8;
+                }
+            }
+            (Mistake::ThirteenthByteAccepted, Call::Request { phase: 1, byte, .. }, Answer::Held) if state.fifo.is_full() => {
+                return Answer::Done(byte);
+            }
+            (Mistake::PointerMovesAtData, Call::Register { .. }, Answer::Done(_)) if before.pointer == 0x19 => {
+                state.pointer = 0x1a
+            }
+            (Mistake::ReportedPhaseReportedAgain, Call::Request { phase, .. }, Answer::Held) if !state.is_busy() => {
+                if !state.has_interrupt() && state.reported.is_some_and(|p| u32::from(p.number()) == phase) {
+                    state.pending = Pending::Interrupt;
+                    state.code = 0x88 + phase as u8;
+                    return Answer::Reported;
+                }
+            }
+            (Mistake::FreeKeepsAtn, Call::Free, Answer::Done(_)) => state.atn = before.atn,
+            (Mistake::BadParityTakenWithHsp, Call::Request { phase, byte, parity: 1 }, Answer::Reported) if before.hsp() => {
+                if phase & 1 == 1 && state.pe && state.held_ack {
+                    *state = before;
+                    state.registers[1] &= 0xfe;
+                    let answer = state.request(phase, byte, 1);
+                    state.registers[1] = before.registers[1];
+                    return answer;
+                }
+            }
+            (Mistake::ResumeKeepsDirection, Call::Register { mark: 1, .. }, Answer::Done(_)) if before.pointer == 0x18 => {
+                if !before.is_busy() && before.connection == Connection::Connected && is_combining(state) {
+                    state.way = Way::Out;
+                }
+            }
+            (Mistake::WaitsBeforeReadOut, Call::Free, Answer::Done(_)) if state.pending == Pending::ReadOut => {
+                state.pending = Pending::Nothing;
+                state.connection = Connection::Waiting;
+            }
+            (Mistake::ReturnForgetsDirection, Call::Reselection { .. }, Answer::Done(_)) if is_combining(state) => {
+                state.way = Way::NotFixed;
+            }
+            (Mistake::StatusKeepsOutgoingFifo, Call::Request { phase: 3, .. }, Answer::Done(_)) if is_combining(state) => {
+                if before.way == Way::Out {
+                    (state.fifo, state.way) = (before.fifo, before.way);
+                }
+            }
+            (Mistake::LunTakenForBusIdentity, Call::Reselection { .. }, Answer::Done(_)) if is_combining(state) => {
+                if state.lun().number() != state.destination().number() {
+                    state.pending = Pending::Interrupt;
+                    state.code = 0x80;
+                    state.running = Running::Nothing;
+                }
+            }
+            _ => {}
+        }
+        answer
+    }
+}
+
+fn is_combining(state: &Controller) -> bool {
+    matches!(state.running, Running::SelectAndTransfer { .. })
+}
