@@ -1,5 +1,5 @@
 -- The third demand, as a predicate of the step: what it asks of any function that moves a controller.
--- Paper: "From an idle, Disconnected controller, reached by calls from a fresh one and with its status read .."; ".. what has crossed the
+-- The third demand: "From an idle, Disconnected controller, reached by calls from a fresh one and with its status read .."; ".. what has crossed the
 -- bus is at each moment a first part of that story, and all of it when the bus is free again; both hold the same data and status; if k
 -- is at least 1, the count left by the data is n - k; and wherever the Target is held, accesses by the host are due that bring it on."
 --   Start        idle, Disconnected, its status read

@@ -1,5 +1,5 @@
 -- The two hosts, as programs over what a host can see: auxiliary status, the registers, and its own data.
--- Paper, third demand: "A host that serves it by one Select-And-Transfer with ATN and a host that serves it by Select-With-ATN, one
+-- The third demand: "A host that serves it by one Select-And-Transfer with ATN and a host that serves it by Select-With-ATN, one
 -- Transfer Info per phase with that phase's count, n for data, and Negate ACK, both with the same Identify, command and data .."
 --   Access      one access of a register: the pointer is set, then the register is read or written
 --   Host        what a host has in hand: what it is about to do, the bytes that it still has to send, what it has read

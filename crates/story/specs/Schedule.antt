@@ -1,5 +1,5 @@
 -- The Target, the host and the controller together, and every order in which they can move.
--- Paper, third demand: ".. and frees the bus, offering again what was not taken"; "what has crossed the bus is at each moment a first
+-- The third demand: ".. and frees the bus, offering again what was not taken"; "what has crossed the bus is at each moment a first
 -- part of that story"; "wherever the Target is held, accesses by the host are due that bring it on".
 --   Target    its place, how long it still waits before it answers, what has crossed, what is still to cross
 --   Scene     the controller, the host and the Target at one moment

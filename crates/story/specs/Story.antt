@@ -1,5 +1,5 @@
 -- The story of one command: what crosses the bus, and the command that it is the story of.
--- Paper, third demand: ".. take a command of group 0, 1 or 5 and a Target that answers selection in time, takes Identify and the whole
+-- The third demand: ".. take a command of group 0, 1 or 5 and a Target that answers selection in time, takes Identify and the whole
 -- command, moves k data bytes one way, k not above the loaded count n, then sends one status byte and Command Complete .."
 --   Item      what crosses: a phase and a byte
 --   Way       the way of the data
