@@ -76,6 +76,33 @@ fn data_read(image: &mut [u8]) -> u32
     256 * (fifo::front(q) as u32)
 }
 
+// The long ways. tools/native-lib keeps them out of the entries' own code, which then needs few registers.
+
+fn read_whole(image: &mut [u8]) -> u32
+    requires { ⌜ Standing (now image) ⌝ }
+    ensures { λ r. ⌜ Made (accessed false 0 (stateOf (now (image .entry)))) r (now (image .exit)) ⌝ }
+{
+    let s = image::state(image);
+    finish::finish(host::accessed(false, 0, s), image)
+}
+
+fn written_whole(byte: u8, image: &mut [u8]) -> u32
+    requires { ⌜ Standing (now image) ⌝ }
+    ensures { λ r. ⌜ Made (accessed true byte (stateOf (now (image .entry)))) r (now (image .exit)) ⌝ }
+{
+    let s = image::state(image);
+    finish::finish(host::accessed(true, byte, s), image)
+}
+
+fn request_whole(phase: u8, byte: u8, bad: bool, image: &mut [u8]) -> u32
+    requires { ⌜ Standing (now image) ⌝ }
+    ensures { λ r. ⌜ Made (requested (phaseOf phase) byte bad (stateOf (now (image .entry)))) r (now (image .exit)) ⌝ }
+{
+    let s = image::state(image);
+    let p = phases::phase_of(phase);
+    finish::finish(request::requested(p, byte, bad, s), image)
+}
+
 pub(crate) fn register_read(image: &mut [u8]) -> u32
     requires { ⌜ Standing (now image) ⌝ }
     ensures { λ r. ⌜ Made (accessed false 0 (stateOf (now (image .entry)))) r (now (image .exit)) ⌝ }
@@ -87,7 +114,7 @@ pub(crate) fn register_read(image: &mut [u8]) -> u32
     if quick::reads_data(s) {
         return data_read(image);
     }
-    finish::finish(host::accessed(false, 0, s), image)
+    read_whole(image)
 }
 
 pub(crate) fn register_written(byte: u8, image: &mut [u8]) -> u32
@@ -102,7 +129,7 @@ pub(crate) fn register_written(byte: u8, image: &mut [u8]) -> u32
         fields::put_newest(byte, image);
         return 0;
     }
-    finish::finish(host::accessed(true, byte, s), image)
+    written_whole(byte, image)
 }
 
 // The low byte of the count, one less.
@@ -172,6 +199,5 @@ pub(crate) fn request(phase: u8, byte: u8, bad: bool, image: &mut [u8]) -> u32
     if sends(phase, s) {
         return byte_sent(byte, bad, image);
     }
-    let p = phases::phase_of(phase);
-    finish::finish(request::requested(p, byte, bad, s), image)
+    request_whole(phase, byte, bad, image)
 }

@@ -2,7 +2,7 @@
 use Rattle.quick.specs.Quick.{isPlain, readsData}
 use Rattle.chip.specs.Registers.{accessed}
 use mathlib.Core.Bool.{false}
-use Rattle.controller.proofs.Steps.{said, whole-made}
+use Rattle.controller.proofs.Steps.{said}
 use borrow.Author.Needs.{needs}
 use Rattle.controller.proofs.in_place.register_read.Statement.{statement}
 use Rattle.controller.proofs.in_place.register_read.Tie as tie
@@ -34,17 +34,14 @@ same-length-2 c = search needs
 returns-2 : tie.Need-returns-2
 returns-2 c = search needs
 
-accessed-requires : tie.Need-accessed-requires
-accessed-requires c κs = search needs
-
-finish-requires : tie.Need-finish-requires
-finish-requires c κs = search needs
+read-whole-requires : tie.Need-read-whole-requires
+read-whole-requires c κs = search needs
 
 same-length-3 : tie.Need-same-length-3
 same-length-3 c = search needs
 
 returns-3 : tie.Need-returns-3
-returns-3 c = whole-made _ (c .before .before .before .before .before .before .before .before .before .before .before .before .pre) (accessed false 0) _ _ _ _ (c .before .before .before .before .before .before .before .before .before .state .ensures) (c .before .before .before .before .accessed .ensures) (c .before .before .finish .ensures .0) (c .before .before .finish .ensures .1)
+returns-3 c = c .before .before .read-whole .ensures
 
 pub register-read-spec : {M : Type 1} → statement M
 register-read-spec =
@@ -59,7 +56,6 @@ register-read-spec =
     data-read-requires
     same-length-2
     returns-2
-    accessed-requires
-    finish-requires
+    read-whole-requires
     same-length-3
     returns-3)

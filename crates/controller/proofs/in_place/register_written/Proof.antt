@@ -2,7 +2,7 @@
 use Rattle.quick.specs.Quick.{isPlain, writesData}
 use Rattle.chip.specs.Registers.{accessed}
 use mathlib.Core.Bool.{true}
-use Rattle.controller.proofs.Steps.{said, whole-made, data-written}
+use Rattle.controller.proofs.Steps.{said, data-written}
 use borrow.Author.Needs.{needs}
 use Rattle.controller.proofs.in_place.register_written.Statement.{statement}
 use Rattle.controller.proofs.in_place.register_written.Tie as tie
@@ -34,17 +34,14 @@ same-length-2 c = search needs
 returns-2 : tie.Need-returns-2
 returns-2 c = data-written _ (c .before .before .before .before .before .before .before .before .before .before .before .pre) _ _ (said _ (c .before .before .before .before .before .before .before .before .before .before .before .pre) writesData _ _ (c .before .before .before .before .before .before .before .before .state .ensures) (c .before .before .before .before .before .writes-data .ensures) (c .before .before .before .before .if2 .taken)) (c .before .before .put-newest .ensures)
 
-accessed-requires : tie.Need-accessed-requires
-accessed-requires c κs = search needs
-
-finish-requires : tie.Need-finish-requires
-finish-requires c κs = search needs
+written-whole-requires : tie.Need-written-whole-requires
+written-whole-requires c κs = search needs
 
 same-length-3 : tie.Need-same-length-3
 same-length-3 c = search needs
 
 returns-3 : tie.Need-returns-3
-returns-3 c = whole-made _ (c .before .before .before .before .before .before .before .before .before .before .before .before .pre) (accessed true (c .before .before .before .before .before .before .before .before .before .before .before .before .args .byte)) _ _ _ _ (c .before .before .before .before .before .before .before .before .before .state .ensures) (c .before .before .before .before .accessed .ensures) (c .before .before .finish .ensures .0) (c .before .before .finish .ensures .1)
+returns-3 c = c .before .before .written-whole .ensures
 
 pub register-written-spec : {M : Type 1} → statement M
 register-written-spec =
@@ -59,7 +56,6 @@ register-written-spec =
     put-newest-requires
     same-length-2
     returns-2
-    accessed-requires
-    finish-requires
+    written-whole-requires
     same-length-3
     returns-3)

@@ -8,7 +8,7 @@ use Rattle.chip.specs.declared.Phase.{Phase}
 use Rattle.chip.specs.Phases.{phaseOf}
 use Rattle.chip.specs.Events.{requested}
 use Rattle.quick.specs.Quick.{takesByte, sendsByte}
-use Rattle.controller.proofs.Steps.{said, whole-made, takes-is, sends-is, taken-request, sent-request}
+use Rattle.controller.proofs.Steps.{said, takes-is, sends-is, taken-request, sent-request}
 use borrow.Author.Needs.{needs}
 use Rattle.controller.proofs.in_place.request.Statement.{statement}
 use Rattle.controller.proofs.in_place.request.Tie as tie
@@ -40,20 +40,14 @@ same-length-2 c = search needs
 returns-2 : tie.Need-returns-2
 returns-2 c = sent-request _ _ _ _ _ _ (sends-is _ _ (said _ (c .before .before .before .before .before .before .before .before .before .before .before .pre) (λ (s : State). both (eqb (c .before .before .before .before .before .before .before .before .before .before .before .args .phase) 0) (sendsByte s)) _ _ (c .before .before .before .before .before .before .before .before .state .ensures) (c .before .before .before .before .before .sends .ensures) (c .before .before .before .before .if2 .taken)) .0) (c .before .before .byte-sent .ensures)
 
-phase-of-requires : tie.Need-phase-of-requires
-phase-of-requires c κs = search needs
-
-requested-requires : tie.Need-requested-requires
-requested-requires c κs = search needs
-
-finish-requires : tie.Need-finish-requires
-finish-requires c κs = search needs
+request-whole-requires : tie.Need-request-whole-requires
+request-whole-requires c κs = search needs
 
 same-length-3 : tie.Need-same-length-3
 same-length-3 c = search needs
 
 returns-3 : tie.Need-returns-3
-returns-3 c = whole-made _ (c .before .before .before .before .before .before .before .before .before .before .before .before .before .pre) (requested (phaseOf (c .before .before .before .before .before .before .before .before .before .before .before .before .before .args .phase)) (c .before .before .before .before .before .before .before .before .before .before .before .before .before .args .byte) (c .before .before .before .before .before .before .before .before .before .before .before .before .before .args .bad)) _ _ _ _ (c .before .before .before .before .before .before .before .before .before .before .state .ensures) (c .before .before .before .before .requested .ensures ∙ ap (λ (p : Phase). requested p (c .before .before .before .before .before .before .before .before .before .before .before .before .before .args .byte) (c .before .before .before .before .before .before .before .before .before .before .before .before .before .args .bad) (c .before .before .before .before .before .before .before .before .before .before .state .result)) (c .before .before .before .before .before .phase-of .ensures)) (c .before .before .finish .ensures .0) (c .before .before .finish .ensures .1)
+returns-3 c = c .before .before .request-whole .ensures
 
 pub request-spec : {M : Type 1} → statement M
 request-spec =
@@ -68,8 +62,6 @@ request-spec =
     byte-sent-requires
     same-length-2
     returns-2
-    phase-of-requires
-    requested-requires
-    finish-requires
+    request-whole-requires
     same-length-3
     returns-3)
