@@ -4,6 +4,7 @@
 --   drained-most   no more is read than waits
 --   filled-none    a FIFO that takes no byte is left as it is
 --   filled-more    another takes the slice's first byte, and then the rest
+--   takes-room     a FIFO that takes a byte has room
 --   filled-most    no more is written than there is room for
 use mathlib.Core.Path.{_≡_, refl}
 use mathlib.Core.Bool.{true, false}
@@ -50,7 +51,7 @@ pub filled-more : (n b : ℕ) (l : List ℕ) (q : Fifo) → takes n q ≡ true �
 unfolding filled pick
 filled-more n b l q e = rw e
 
-takes-room : (n : ℕ) (q : Fifo) → takes n q ≡ true → hasRoom q ≡ true
+pub takes-room : (n : ℕ) (q : Fifo) → takes n q ≡ true → hasRoom q ≡ true
 unfolding takes both
 takes-room n q h =
     by-test (ltb (waits q) n) (λ e. rw e at h)

@@ -1,8 +1,10 @@
 // Block moves: chip's blockRead and blockWritten, single accesses to the Data register until the slice ends or answer 7 would come.
 // The loops go over the FIFO alone, and the state is made anew once.
 ghost use mathlib.Core.Path.{_≡_};
-ghost use Rattle.blocks.specs.Blocks.{drained, filled, takes};
+ghost use Rattle.blocks.specs.Blocks.{drained, filled};
+ghost use Rattle.chip.specs.Choice.{both};
 ghost use Rattle.chip.specs.Registers.{blockRead, blockWritten};
+ghost use lib.Dec.{ltb};
 use chip::Direction;
 use chip::Fifo;
 use chip::State;
@@ -42,31 +44,38 @@ fn drain(q: Fifo, out: &mut [u8]) -> Run
     Run { moved, fifo: t }
 }
 
-fn takes(n: u32, q: Fifo) -> bool
-    ensures { λ r. ⌜ r ≡ takes n q ⌝ }
+// A FIFO in which held bytes wait takes another.
+fn takes(n: u32, held: u8) -> bool
+    ensures { λ r. ⌜ r ≡ both (ltb held n) (ltb held 12) ⌝ }
 {
-    if (fifo::waits(q) as u32) < n {
-        return fifo::has_room(q);
+    if (held as u32) < n {
+        return held < 12;
     }
     false
 }
 
+// The loop goes over the FIFO's bytes and their number apart: a FIFO made anew each turn would be copied each turn.
 fn fill(n: u32, q: Fifo, from: &[u8]) -> Run
     ensures { λ r. ⌜ (r .moved ≡ filled n (now (from .entry)) q .moved) × (r .fifo ≡ filled n (now (from .entry)) q .fifo) ⌝ }
 {
-    let mut t = q;
+    let mut bytes = q.bytes;
+    let mut held = q.held;
     let mut i = 0;
     while i < from.len() {
-        if takes(n, t) {
-            t = fifo::push(from[i], t);
+        if takes(n, held) {
+            let at = held as usize;
+            bytes[at] = from[i];
+            held += 1;
             i += 1;
         } else {
             let moved = i as u8;
-            return Run { moved, fifo: t };
+            let fifo = Fifo { bytes, held };
+            return Run { moved, fifo };
         }
     }
     let moved = i as u8;
-    Run { moved, fifo: t }
+    let fifo = Fifo { bytes, held };
+    Run { moved, fifo }
 }
 
 pub fn block_read(s: State, out: &mut [u8]) -> Moved

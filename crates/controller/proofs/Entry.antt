@@ -16,6 +16,7 @@ use Rattle.chip.specs.State.{fresh}
 use Rattle.chip.specs.Image.{imageOf, stateOf, isImage}
 use Rattle.chip.specs.declared.Reply.{Reply}
 use Rattle.chip.specs.declared.State.{State}
+use Rattle.controller.specs.Made.{Made}
 use Rattle.image.specs.Read.{readOf}
 use Rattle.image.specs.declared.Reading.{Reading}
 
@@ -67,6 +68,21 @@ served c l r p n after e h g k a b =
       b ∙ (let long : eqb (length l) 53 ≡ true = long-enough l i in rw long) ∙ sym (ap (λ (x : Left). x .image) w),
     )
 
+-- an image that stands, and a call made on it
+pub entered-made : (c : Call) (l : List ℕ) (p : Reply) (n : ℕ) (after : List ℕ) → isImage l ≡ true → isGood c ≡ true
+    → carried c (stateOf l) ≡ plain p → Made p n after → (n ≡ entered c l .result) × (after ≡ entered c l .image)
+entered-made c l p n after i g k m =
+    let w : entered c l ≡ written (plain p) = taken c l i g ∙ ap written k in
+    (m .number ∙ sym (ap (λ (x : Left). x .result) w), m .image ∙ sym (ap (λ (x : Left). x .image) w))
+
+-- a call made on the state, and the whole image written
+pub finished : (l : List ℕ) (p : Reply) (n : ℕ) (after : List ℕ) → isImage l ≡ true → n ≡ result (p .answer)
+    → after ≡ pick (eqb (length l) 53) (imageOf (p .state)) l → Made p n after
+unfolding pick
+finished l p n after i a b =
+    let long : eqb (length l) 53 ≡ true = long-enough l i in
+    record { number = a; image = b ∙ rw long }
+
 no-image : (c : Call) (l : List ℕ) → isImage l ≡ false → entered c l ≡ refused c l
 unfolding entered pick both
 no-image c l i = rw i
@@ -81,6 +97,9 @@ of-refused c l w = (sym (ap (λ (x : Left). x .result) w), sym (ap (λ (x : Left
 pub refused-image : (c : Call) (l : List ℕ) (r : Reading) → r ≡ readOf l → r .ok ≡ false
     → (3 ≡ entered c l .result) × (l ≡ entered c l .image)
 refused-image c l r e h = of-refused c l (no-image c l (sym (ok-is l r e) ∙ h))
+
+pub not-standing : (c : Call) (l : List ℕ) → isImage l ≡ false → (3 ≡ entered c l .result) × (l ≡ entered c l .image)
+not-standing c l i = of-refused c l (no-image c l i)
 
 pub refused-operand : (c : Call) (l : List ℕ) → isGood c ≡ false → (3 ≡ entered c l .result) × (l ≡ entered c l .image)
 refused-operand c l g = of-refused c l (no-operand c l g)

@@ -1,24 +1,11 @@
-// Calls on a state that choose by their mark, and what a board drives on the bus.
+// What a board drives on the bus.
 ghost use mathlib.Core.Path.{_≡_};
 ghost use Prim.Native.Nat.{_*_};
-ghost use Rattle.chip.specs.Calls.{isSet};
-ghost use Rattle.chip.specs.Choice.{pick};
 ghost use Rattle.chip.specs.Entries.{connectionBits, lineBits};
 ghost use Rattle.chip.specs.Lines.{bit};
-ghost use Rattle.chip.specs.Registers.{pointerRead, pointerSet};
 use chip::Connection;
-use chip::Reply;
 use chip::State;
 use state::get;
-
-pub fn pointer(mark: u32, byte: u8, s: State) -> Reply
-    ensures { λ r. ⌜ r ≡ pick (isSet mark) (pointerSet byte s) (pointerRead s) ⌝ }
-{
-    if mark == 1 {
-        return host::pointer_set(byte, s);
-    }
-    host::pointer_read(s)
-}
 
 fn connection_bits(c: Connection) -> u8
     ensures { λ r. ⌜ r ≡ connectionBits c ⌝ }

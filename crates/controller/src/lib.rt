@@ -3,13 +3,12 @@
 // byte as it was. include/am33c93a.h is the C side.
 mod calls; // calls.rt: a call on a state, by its mark
 mod finish; // finish.rt: what every entry does last
+mod in_place; // in_place.rt: calls that store only the bytes that change
 
 use bus::answer;
 use bus::free;
-use bus::request;
 use bus::reselection;
 use bus::time;
-use state::phases;
 ghost use Prim.Native.Nat.{_*_};
 ghost use Rattle.chip.specs.Calls as Calls;
 ghost use Rattle.chip.specs.Entries.{entered, freshEntered, linesEntered};
@@ -42,10 +41,8 @@ pub extern "C" fn am33c93a_pointer(image: &mut [u8], mark: u32, byte: u32) -> u3
 {
     if mark < 2 {
         if byte < 256 {
-            let reading = image::read(image);
-            if reading.ok {
-                let s = reading.state;
-                return finish::finish(calls::pointer(mark, byte as u8, s), image);
+            if fields::stands(image) {
+                return in_place::pointer(mark, byte as u8, image);
             }
             return BAD_NUMBER;
         }
@@ -59,10 +56,8 @@ pub extern "C" fn am33c93a_auxiliary(image: &mut [u8]) -> u32
     ensures { λ r. ⌜ (r ≡ entered Calls.auxiliary (now (image .entry)) .result)
         × (now (image .exit) ≡ entered Calls.auxiliary (now (image .entry)) .image) ⌝ }
 {
-    let reading = image::read(image);
-    if reading.ok {
-        let s = reading.state;
-        return finish::finish(host::auxiliary_read(s), image);
+    if fields::stands(image) {
+        return in_place::auxiliary(image);
     }
     BAD_NUMBER
 }
@@ -74,10 +69,11 @@ pub extern "C" fn am33c93a_register(image: &mut [u8], mark: u32, byte: u32) -> u
 {
     if mark < 2 {
         if byte < 256 {
-            let reading = image::read(image);
-            if reading.ok {
-                let s = reading.state;
-                return finish::finish(host::accessed(mark == 1, byte as u8, s), image);
+            if fields::stands(image) {
+                if mark == 1 {
+                    return in_place::register_written(byte as u8, image);
+                }
+                return in_place::register_read(image);
             }
             return BAD_NUMBER;
         }
@@ -159,11 +155,8 @@ pub extern "C" fn am33c93a_request(image: &mut [u8], phase: u32, byte: u32, pari
     if phase < 8 {
         if byte < 256 {
             if parity < 2 {
-                let reading = image::read(image);
-                if reading.ok {
-                    let s = reading.state;
-                    let p = phases::phase_of(phase as u8);
-                    return finish::finish(request::requested(p, byte as u8, parity == 1, s), image);
+                if fields::stands(image) {
+                    return in_place::request(phase as u8, byte as u8, parity == 1, image);
                 }
                 return BAD_NUMBER;
             }

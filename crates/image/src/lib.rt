@@ -13,7 +13,7 @@ ghost use lib.Dec.{eqb};
 ghost use lib.ListN.{length};
 ghost use Rattle.chip.specs.Choice.{pick};
 ghost use Rattle.chip.specs.State.{fresh};
-ghost use Rattle.chip.specs.Image.{isImage, imageOf};
+ghost use Rattle.chip.specs.Image.{isImage, imageOf, stateOf};
 ghost use Rattle.image.specs.Read.{readOf};
 
 // What bytes say: whether they are a state's image, and the state; the fresh one where they are none.
@@ -58,6 +58,16 @@ pub fn read(image: &[u8]) -> Reading
     }
     let state = fresh();
     Reading { ok: false, state }
+}
+
+// The state that bytes say; the fresh one where their length is not an image's. Whether they are an image is not asked.
+pub fn state(image: &[u8]) -> State
+    ensures { λ r. ⌜ r ≡ pick (eqb (length (now (image .entry))) 53) (stateOf (now (image .entry))) fresh ⌝ }
+{
+    if image.len() == 53 {
+        return state_of(image);
+    }
+    fresh()
 }
 
 // Bytes of another length than an image's stay as they are.

@@ -1,50 +1,33 @@
--- `controller::am33c93a_auxiliary` meets its contract: each way through the code is the definition's own way.
+-- `controller::am33c93a_auxiliary` meets its contract.
 use mathlib.Core.Path.{refl, ap, sym, _∙_}
 use Rattle.chip.specs.Calls as Calls
 use Rattle.chip.specs.Calls.{isGood, carried, plain}
-use borrow.Author.Tests.{lt-ltb, le-ltb}
-use Rattle.controller.proofs.Entry.{served, refused-image, refused-operand, and-true, and-false, and-then-false}
+use Rattle.controller.proofs.Entry.{entered-made, not-standing}
 use borrow.Author.Needs.{needs}
 use Rattle.controller.proofs.am33c93a_auxiliary.Statement.{statement}
 use Rattle.controller.proofs.am33c93a_auxiliary.Tie as tie
 
-read-requires : tie.Need-read-requires
-read-requires c κs = search needs
+stands-requires : tie.Need-stands-requires
+stands-requires c κs = search needs
 
-auxiliary-read-requires : tie.Need-auxiliary-read-requires
-auxiliary-read-requires c κs = search needs
-
-finish-requires : tie.Need-finish-requires
-finish-requires c κs = search needs
+auxiliary-requires : tie.Need-auxiliary-requires
+auxiliary-requires c κs = c .before .before .stands .ensures .1 (c .before .if1 .taken)
 
 same-length : tie.Need-same-length
 same-length c = search needs
 
 returns : tie.Need-returns
 unfolding isGood carried
-returns c =
-    served (Calls.auxiliary) _ _ _ _ _ (c .before .before .before .before .before .before .before .read .ensures) (c .before .before .before .before .before .before .if1 .taken)
-    (refl)
-    (ap plain (sym (c .before .before .before .before .auxiliary-read .ensures)))
-    (c .before .before .finish .ensures .0)
-    (c .before .before .finish .ensures .1)
+returns c = entered-made Calls.auxiliary _ _ _ _ (sym (c .before .before .before .before .before .stands .ensures .0) ∙ c .before .before .before .before .if1 .taken) refl refl (c .before .before .auxiliary .ensures)
 
 same-length-2 : tie.Need-same-length-2
 same-length-2 c = search needs
 
 returns-2 : tie.Need-returns-2
 unfolding isGood carried
-returns-2 c =
-    refused-image (Calls.auxiliary) _ _ (c .before .read .ensures) (c .if1 .left)
+returns-2 c = not-standing Calls.auxiliary _ (sym (c .before .stands .ensures .0) ∙ c .if1 .left)
 
 pub am33c93a-auxiliary-spec : {M : Type 1} → statement M
 am33c93a-auxiliary-spec =
     tie.close
-    (tie.spec
-    read-requires
-    auxiliary-read-requires
-    finish-requires
-    same-length
-    returns
-    same-length-2
-    returns-2)
+    (tie.spec stands-requires auxiliary-requires same-length returns same-length-2 returns-2)

@@ -1,63 +1,51 @@
--- `controller::am33c93a_pointer` meets its contract: each way through the code is the definition's own way.
+-- `controller::am33c93a_pointer` meets its contract.
 use mathlib.Core.Path.{refl, ap, sym, _∙_}
 use Rattle.chip.specs.Calls as Calls
 use Rattle.chip.specs.Calls.{isGood, carried, plain}
 use borrow.Author.Tests.{lt-ltb, le-ltb}
-use Rattle.controller.proofs.Entry.{served, refused-image, refused-operand, and-true, and-false, and-then-false}
+use Rattle.controller.proofs.Entry.{entered-made, not-standing, refused-operand, and-true, and-false, and-then-false}
 use borrow.Author.Needs.{needs}
 use Rattle.controller.proofs.am33c93a_pointer.Statement.{statement}
 use Rattle.controller.proofs.am33c93a_pointer.Tie as tie
 
-read-requires : tie.Need-read-requires
-read-requires c κs = search needs
+stands-requires : tie.Need-stands-requires
+stands-requires c κs = search needs
 
 cast-pointer : tie.Need-cast-pointer
 cast-pointer c = search needs
 
 pointer-requires : tie.Need-pointer-requires
-pointer-requires c κs = search needs
-
-finish-requires : tie.Need-finish-requires
-finish-requires c κs = search needs
+pointer-requires c κs = c .before .before .stands .ensures .1 (c .before .if3 .taken)
 
 same-length : tie.Need-same-length
 same-length c = search needs
 
 returns : tie.Need-returns
 unfolding isGood carried
-returns c =
-    served (Calls.pointer _ _) _ _ _ _ _ (c .before .before .before .before .before .before .before .read .ensures) (c .before .before .before .before .before .before .if3 .taken)
-    (and-true (lt-ltb _ _ (c .before .before .before .before .before .before .before .before .before .before .if1 .taken)) (lt-ltb _ _ (c .before .before .before .before .before .before .before .before .before .if2 .taken)))
-    (ap plain (sym (c .before .before .before .before .pointer .ensures)))
-    (c .before .before .finish .ensures .0)
-    (c .before .before .finish .ensures .1)
+returns c = entered-made (Calls.pointer _ _) _ _ _ _ (sym (c .before .before .before .before .before .stands .ensures .0) ∙ c .before .before .before .before .if3 .taken) (and-true (lt-ltb _ _ (c .before .before .before .before .before .before .before .before .if1 .taken)) (lt-ltb _ _ (c .before .before .before .before .before .before .before .if2 .taken))) refl (c .before .before .pointer .ensures)
 
 same-length-2 : tie.Need-same-length-2
 same-length-2 c = search needs
 
 returns-2 : tie.Need-returns-2
 unfolding isGood carried
-returns-2 c =
-    refused-image (Calls.pointer _ _) _ _ (c .before .read .ensures) (c .if3 .left)
+returns-2 c = not-standing (Calls.pointer _ _) _ (sym (c .before .stands .ensures .0) ∙ c .if3 .left)
 
 returns-3 : tie.Need-returns-3
 unfolding isGood carried
-returns-3 c =
-    refused-operand (Calls.pointer _ _) _ (and-then-false _ _ (le-ltb _ _ (c .if2 .left)))
+returns-3 c = refused-operand (Calls.pointer _ _) _ (and-then-false _ _ (le-ltb _ _ (c .if2 .left)))
 
 returns-4 : tie.Need-returns-4
 unfolding isGood carried
-returns-4 c =
-    refused-operand (Calls.pointer _ _) _ (and-false _ _ (le-ltb _ _ (c .if1 .left)))
+returns-4 c = refused-operand (Calls.pointer _ _) _ (and-false _ _ (le-ltb _ _ (c .if1 .left)))
 
 pub am33c93a-pointer-spec : {M : Type 1} → statement M
 am33c93a-pointer-spec =
     tie.close
     (tie.spec
-    read-requires
+    stands-requires
     cast-pointer
     pointer-requires
-    finish-requires
     same-length
     returns
     same-length-2

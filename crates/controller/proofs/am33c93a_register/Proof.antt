@@ -1,24 +1,25 @@
--- `controller::am33c93a_register` meets its contract: each way through the code is the definition's own way.
+-- `controller::am33c93a_register` meets its contract.
 use mathlib.Core.Path.{refl, ap, sym, _∙_}
 use Rattle.chip.specs.Calls as Calls
 use Rattle.chip.specs.Calls.{isGood, carried, plain}
-use borrow.Author.Tests.{lt-ltb, le-ltb}
-use Rattle.controller.proofs.Entry.{served, refused-image, refused-operand, and-true, and-false, and-then-false}
+use borrow.Author.Tests.{lt-ltb, le-ltb, eq-eqb, ne-eqb}
+use Rattle.controller.proofs.Entry.{entered-made, not-standing, refused-operand, and-true, and-false, and-then-false}
+use mathlib.Core.Bool.{Bool}
+use Rattle.chip.specs.Image.{stateOf}
+use Rattle.chip.specs.Registers.{accessed}
+use Rattle.controller.proofs.Steps.{read-alike}
 use borrow.Author.Needs.{needs}
 use Rattle.controller.proofs.am33c93a_register.Statement.{statement}
 use Rattle.controller.proofs.am33c93a_register.Tie as tie
 
-read-requires : tie.Need-read-requires
-read-requires c κs = search needs
+stands-requires : tie.Need-stands-requires
+stands-requires c κs = search needs
 
-cast-accessed : tie.Need-cast-accessed
-cast-accessed c = search needs
+cast-register-written : tie.Need-cast-register-written
+cast-register-written c = search needs
 
-accessed-requires : tie.Need-accessed-requires
-accessed-requires c κs = search needs
-
-finish-requires : tie.Need-finish-requires
-finish-requires c κs = search needs
+register-written-requires : tie.Need-register-written-requires
+register-written-requires c κs = c .before .before .before .stands .ensures .1 (c .before .before .if3 .taken)
 
 same-length : tie.Need-same-length
 same-length c = search needs
@@ -26,11 +27,13 @@ same-length c = search needs
 returns : tie.Need-returns
 unfolding isGood carried
 returns c =
-    served (Calls.register _ _) _ _ _ _ _ (c .before .before .before .before .before .before .before .read .ensures) (c .before .before .before .before .before .before .if3 .taken)
-    (and-true (lt-ltb _ _ (c .before .before .before .before .before .before .before .before .before .before .if1 .taken)) (lt-ltb _ _ (c .before .before .before .before .before .before .before .before .before .if2 .taken)))
-    (ap plain (sym (c .before .before .before .before .accessed .ensures)))
-    (c .before .before .finish .ensures .0)
-    (c .before .before .finish .ensures .1)
+    let a = c .before .before .before .before .before .before .before .before .before .before .before .args in
+    entered-made (Calls.register _ _) _ _ _ _ (sym (c .before .before .before .before .before .before .stands .ensures .0) ∙ c .before .before .before .before .before .if3 .taken) (and-true (lt-ltb _ _ (c .before .before .before .before .before .before .before .before .before .if1 .taken)) (lt-ltb _ _ (c .before .before .before .before .before .before .before .before .if2 .taken)))
+    (ap (λ (w : Bool). plain (accessed w (a .byte) (stateOf (a .image .now)))) (eq-eqb _ _ (c .before .before .before .before .if4 .taken)))
+    (c .before .before .register-written .ensures)
+
+register-read-requires : tie.Need-register-read-requires
+register-read-requires c κs = c .before .before .before .stands .ensures .1 (c .before .before .if3 .taken)
 
 same-length-2 : tie.Need-same-length-2
 same-length-2 c = search needs
@@ -38,29 +41,40 @@ same-length-2 c = search needs
 returns-2 : tie.Need-returns-2
 unfolding isGood carried
 returns-2 c =
-    refused-image (Calls.register _ _) _ _ (c .before .read .ensures) (c .if3 .left)
+    let a = c .before .before .before .before .before .before .before .before .before .before .before .args in
+    entered-made (Calls.register _ _) _ _ _ _ (sym (c .before .before .before .before .before .before .stands .ensures .0) ∙ c .before .before .before .before .before .if3 .taken) (and-true (lt-ltb _ _ (c .before .before .before .before .before .before .before .before .before .if1 .taken)) (lt-ltb _ _ (c .before .before .before .before .before .before .before .before .if2 .taken)))
+    (ap (λ (w : Bool). plain (accessed w (a .byte) (stateOf (a .image .now)))) (ne-eqb _ _ (c .before .before .before .before .if4 .left))
+    ∙ ap plain (read-alike (a .byte) (stateOf (a .image .now))))
+    (c .before .before .register-read .ensures)
+
+same-length-3 : tie.Need-same-length-3
+same-length-3 c = search needs
 
 returns-3 : tie.Need-returns-3
 unfolding isGood carried
-returns-3 c =
-    refused-operand (Calls.register _ _) _ (and-then-false _ _ (le-ltb _ _ (c .if2 .left)))
+returns-3 c = not-standing (Calls.register _ _) _ (sym (c .before .stands .ensures .0) ∙ c .if3 .left)
 
 returns-4 : tie.Need-returns-4
 unfolding isGood carried
-returns-4 c =
-    refused-operand (Calls.register _ _) _ (and-false _ _ (le-ltb _ _ (c .if1 .left)))
+returns-4 c = refused-operand (Calls.register _ _) _ (and-then-false _ _ (le-ltb _ _ (c .if2 .left)))
+
+returns-5 : tie.Need-returns-5
+unfolding isGood carried
+returns-5 c = refused-operand (Calls.register _ _) _ (and-false _ _ (le-ltb _ _ (c .if1 .left)))
 
 pub am33c93a-register-spec : {M : Type 1} → statement M
 am33c93a-register-spec =
     tie.close
     (tie.spec
-    read-requires
-    cast-accessed
-    accessed-requires
-    finish-requires
+    stands-requires
+    cast-register-written
+    register-written-requires
     same-length
     returns
+    register-read-requires
     same-length-2
     returns-2
+    same-length-3
     returns-3
-    returns-4)
+    returns-4
+    returns-5)

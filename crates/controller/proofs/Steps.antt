@@ -1,0 +1,224 @@
+-- What the stores of each quick call leave: the call's own reply, by the laws of room quick. The bytes l stand; t is their state as
+-- the code reads it, and `after..` are the bytes after each store.
+use mathlib.Core.Path.{_≡_, refl, ap, sym, _∙_}
+use mathlib.Core.Bool.{Bool, true, false}
+use mathlib.Core.List.{List, [], _∷_, _++_}
+use Prim.Native.Nat.{ℕ, _+_, _-_, _*_, _/_, _%_, _<_, _≤_}
+use native.Mathlib.Nat.{zero-add}
+use native.Mathlib.Omega.{arith}
+use lib.Dec.{eqb, ltb}
+use lib.ListN.{length, getD, set, drop, length-set, length-append, length-drop}
+use lib.Seq.{sets}
+use borrow.Author.Tests.{eq-eqb, ne-eqb, lt-ltb, eqb-true}
+use Rattle.chip.specs.Choice.{pick, both}
+use Rattle.chip.specs.Calls.{isSet}
+use Rattle.chip.specs.declared.State.{State}
+use Rattle.chip.specs.declared.Fifo.{Fifo}
+use Rattle.chip.specs.declared.Reply.{Reply}
+use Rattle.chip.specs.declared.Answer.the-variants.{Done}
+use Rattle.chip.specs.declared.Phase.the-variants.{DataIn, DataOut}
+use Rattle.chip.specs.declared.Noted.the-variants.{Was}
+use Rattle.chip.specs.Entries.{result}
+use Rattle.chip.specs.Fifo.{isEmpty, front, pop, push}
+use Rattle.chip.specs.State.{fresh, setPointer, setFifo, setCount, setLast}
+use Rattle.chip.specs.Image.{imageOf, stateOf, isImage}
+use Rattle.chip.specs.Phases.{phaseOf}
+use Rattle.chip.specs.Registers.{accessed, accessedAt, auxiliaryRead, pointerRead, pointerSet, stored, registerAt}
+use Rattle.chip.specs.Events.{requested}
+use Rattle.image.proofs.Lists.{run}
+use Rattle.image.proofs.Tests.{both-left, both-right}
+use Rattle.fields.specs.Standing.{Standing}
+use Rattle.fields.proofs.Laws.{Long, long}
+use Rattle.fields.proofs.Stored.{register-at, register-and-pointer}
+use Rattle.quick.specs.Quick.{isPlain, readsData, writesData, takesByte, sendsByte}
+use Rattle.quick.proofs.Laws.{unless, below, plain-read, plain-write, data-read, data-write, write-room, low, taking, taken-room, byte-taken, sending, byte-sent}
+use Rattle.controller.specs.Made.{Made}
+use Rattle.controller.proofs.Entry.{long-enough, pick-true, and-true, finished}
+use Rattle.controller.proofs.InPlace.{At, at-start, state-is, put-pointer-at, put-last-at, put-low-at, put-fifo-at, put-newest-at}
+
+-- a reply as it is computed
+replied : (p r : Reply) (n : ℕ) (after : List ℕ) → p ≡ r → Made r n after → Made p n after
+replied p r n after e m = record { number = m .number ∙ ap (λ (x : Reply). result (x .answer)) (sym e); image = m .image ∙ ap (λ (x : Reply). imageOf (x .state)) (sym e) }
+
+popped-long : (q : Fifo) (t : Bool) → length (q .bytes) ≡ 12
+    → length (pick t q (record { bytes = drop 1 (q .bytes) ++ (0 ∷ []); held = q .held - 1 }) .bytes) ≡ 12
+unfolding pick
+popped-long q true h = h
+popped-long q false h = rw length-append (omega (arith, length-drop 1 (q .bytes)))
+
+pop-long : (q : Fifo) → length (q .bytes) ≡ 12 → length (pop q .bytes) ≡ 12
+unfolding pop
+pop-long q h = popped-long q (isEmpty q) h
+
+module _ (l : List ℕ) (o : Standing l) where
+  start : At l (stateOf l)
+  start = at-start o
+
+  pub length-is : length l ≡ 53
+  length-is = start .fits
+
+  pub pointer-set-made : (mark b : ℕ) (after : List ℕ) → mark ≡ 1 → after ≡ pick (eqb (length l) 53) (set l 25 b) l
+      → Made (pick (isSet mark) (pointerSet b (stateOf l)) (pointerRead (stateOf l))) 0 after
+  unfolding pick pointerSet
+  pointer-set-made mark b after m e =
+      rw (eq-eqb mark 1 m) (record { number = refl; image = put-pointer-at start after b e .image })
+
+  pub pointer-read-made : (mark b : ℕ) (t : State) → (mark ≡ 1 → ⊥) → t ≡ pick (eqb (length l) 53) (stateOf l) fresh
+      → Made (pick (isSet mark) (pointerSet b (stateOf l)) (pointerRead (stateOf l))) (256 * t .status .pointer) l
+  unfolding pick pointerRead
+  pointer-read-made mark b t m e =
+      rw (ne-eqb mark 1 m)
+      (record { number = ap (λ (x : State). 256 * x .status .pointer) (state-is l t o e) ∙ sym (zero-add _); image = start .image })
+
+  pub auxiliary-made : (t : State) (r : Reply) (n : ℕ) → t ≡ pick (eqb (length l) 53) (stateOf l) fresh → r ≡ auxiliaryRead t
+      → n ≡ result (r .answer) → Made (auxiliaryRead (stateOf l)) n l
+  unfolding auxiliaryRead
+  auxiliary-made t r n e f h =
+      let g : r ≡ auxiliaryRead (stateOf l) = f ∙ ap auxiliaryRead (state-is l t o e) in
+      record { number = h ∙ ap (λ (x : Reply). result (x .answer)) g; image = start .image }
+
+  pub plain-below : isPlain (stateOf l) ≡ true → getD l 25 0 < 23
+  unfolding stateOf
+  plain-below e = below (stateOf l) e
+
+  pub plain-written : (b : ℕ) (after after₂ : List ℕ) → isPlain (stateOf l) ≡ true → b < 256
+      → after ≡ pick (both (eqb (length l) 53) (ltb (getD l 25 0) 23)) (set l (getD l 25 0) b) l
+      → after₂ ≡ pick (eqb (length after) 53) (set after 25 (getD l 25 0 + 1)) after
+      → Made (accessed true b (stateOf l)) 0 after₂
+  unfolding stateOf
+  plain-written b after after₂ e h f g =
+      let a = getD l 25 0 in
+      let k : a < 23 = plain-below e in
+      let f′ : after ≡ set l a b = f ∙ pick-true _ _ _ (and-true (long-enough l (o .valid)) (lt-ltb _ _ k)) in
+      let n : length after ≡ 53 = ap length f′ ∙ length-set l a b ∙ length-is in
+      let g′ : after₂ ≡ set after 25 (a + 1) = g ∙ pick-true _ _ _ (eq-eqb _ _ n) in
+      replied _ _ _ _ (plain-write (stateOf l) e b)
+      (record {
+        number = refl;
+        image =
+            g′ ∙ ap (λ (x : List ℕ). set x 25 (a + 1)) f′ ∙ ap (λ (x : List ℕ). set (set x a b) 25 (a + 1)) (start .image)
+            ∙ sym (register-and-pointer b (a + 1) (stateOf l) (start .long) h a k);
+      })
+
+  pub plain-given : (b : ℕ) (after : List ℕ) → isPlain (stateOf l) ≡ true
+      → after ≡ pick (eqb (length l) 53) (set l 25 (getD l 25 0 + 1)) l
+      → Made (accessed false b (stateOf l)) (256 * getD l (getD l 25 0) 0) after
+  unfolding stateOf
+  plain-given b after e f =
+      let a = getD l 25 0 in
+      let v : registerAt a (stateOf l .registers) ≡ getD l a 0 =
+      register-at (stateOf l) (start .long) a (plain-below e) ∙ ap (λ (x : List ℕ). getD x a 0) (o .same) in
+      replied _ _ _ _ (plain-read (stateOf l) e b)
+      (record {
+        number = ap (λ (x : ℕ). 256 * x) (sym v) ∙ sym (zero-add _);
+        image = put-pointer-at start after (a + 1) f .image;
+      })
+
+  pub data-given : (b : ℕ) (t : State) (q : Fifo) (f : ℕ) (after : List ℕ) → t ≡ pick (eqb (length l) 53) (stateOf l) fresh
+      → q ≡ pop (t .fifo) → f ≡ front (t .fifo) → readsData (stateOf l) ≡ true
+      → after ≡ pick (eqb (length l) 53) (sets l 40 (q .held ∷ run 12 0 (q .bytes))) l
+      → Made (accessed false b (stateOf l)) (256 * f) after
+  data-given b t q f after e p h d g =
+      let i = state-is l t o e in
+      let p′ : q ≡ pop (stateOf l .fifo) = p ∙ ap (λ (x : State). pop (x .fifo)) i in
+      let n : length (q .bytes) ≡ 12 = ap (λ (x : Fifo). length (x .bytes)) p′ ∙ pop-long _ (start .long .bytes-long) in
+      let k = put-fifo-at start after q n g in
+      replied _ _ _ _ (data-read (stateOf l) d b)
+      (record {
+        number = ap (λ (x : ℕ). 256 * x) (h ∙ ap (λ (x : State). front (x .fifo)) i) ∙ sym (zero-add _);
+        image = k .image ∙ ap (λ (x : Fifo). imageOf (setFifo x (stateOf l))) p′;
+      })
+
+  pub data-written : (b : ℕ) (after : List ℕ) → writesData (stateOf l) ≡ true
+      → after ≡ pick (both (eqb (length l) 53) (ltb (getD l 40 0) 12)) (set (set l (41 + getD l 40 0) b) 40 (getD l 40 0 + 1)) l
+      → Made (accessed true b (stateOf l)) 0 after
+  unfolding stateOf
+  data-written b after d g =
+      replied _ _ _ _ (data-write (stateOf l) d b)
+      (record { number = refl; image = put-newest-at start after b refl (write-room (stateOf l) d) g .image })
+
+  pub low-enough : takesByte (stateOf l) ≡ true → 2 ≤ stateOf l .registers .count % 256
+  low-enough e = low (stateOf l) (taking (stateOf l) e)
+
+  pub low-enough-out : sendsByte (stateOf l) ≡ true → 2 ≤ stateOf l .registers .count % 256
+  low-enough-out e = low (stateOf l) (sending (stateOf l) e)
+
+  newest-first : (after : List ℕ) (b : ℕ) → takesByte (stateOf l) ≡ true
+      → after ≡ pick (both (eqb (length l) 53) (ltb (getD l 40 0) 12)) (set (set l (41 + getD l 40 0) b) 40 (getD l 40 0 + 1)) l
+      → At after (setFifo (push b (stateOf l .fifo)) (stateOf l))
+  unfolding stateOf
+  newest-first after b d f = put-newest-at start after b refl (taken-room (stateOf l) d) f
+
+  pub taken-made : (b v : ℕ) (t : State) (after after₂ after₃ : List ℕ) → takesByte (stateOf l) ≡ true
+      → t ≡ pick (eqb (length l) 53) (stateOf l) fresh → v ≡ (t .registers .count - 1) % 256
+      → after ≡ pick (both (eqb (length l) 53) (ltb (getD l 40 0) 12)) (set (set l (41 + getD l 40 0) b) 40 (getD l 40 0 + 1)) l
+      → after₂ ≡ pick (eqb (length after) 53) (set after 20 v) after
+      → after₃ ≡ pick (eqb (length after₂) 53) (set after₂ 37 2) after₂
+      → Made (requested DataIn b false (stateOf l)) (256 * b) after₃
+  taken-made b v t after after₂ after₃ d e h f g k =
+      let i = state-is l t o e in
+      let n = low-enough d in
+      let one : At after (setFifo (push b (stateOf l .fifo)) (stateOf l)) = newest-first after b d f in
+      let v′ : v ≡ (stateOf l .registers .count - 1) % 256 = h ∙ ap (λ (x : State). (x .registers .count - 1) % 256) i in
+      let two = put-low-at one after₂ (stateOf l .registers .count - 1) v v′ g (omega (arith, n)) in
+      replied _ _ _ _ (byte-taken (stateOf l) d b)
+      (record { number = sym (zero-add _); image = put-last-at two after₃ 2 (Was DataIn) k refl .image })
+
+  pub sent-made : (b v : ℕ) (bad : Bool) (t : State) (q : Fifo) (x : ℕ) (after after₂ after₃ : List ℕ) → sendsByte (stateOf l) ≡ true
+      → t ≡ pick (eqb (length l) 53) (stateOf l) fresh → v ≡ (t .registers .count - 1) % 256
+      → q ≡ pop (t .fifo) → x ≡ front (t .fifo)
+      → after ≡ pick (eqb (length l) 53) (sets l 40 (q .held ∷ run 12 0 (q .bytes))) l
+      → after₂ ≡ pick (eqb (length after) 53) (set after 20 v) after
+      → after₃ ≡ pick (eqb (length after₂) 53) (set after₂ 37 1) after₂
+      → Made (requested DataOut b bad (stateOf l)) (256 * x) after₃
+  sent-made b v bad t q x after after₂ after₃ d e h p y f g k =
+      let i = state-is l t o e in
+      let n = low-enough-out d in
+      let p′ : q ≡ pop (stateOf l .fifo) = p ∙ ap (λ (x : State). pop (x .fifo)) i in
+      let m : length (q .bytes) ≡ 12 = ap (λ (x : Fifo). length (x .bytes)) p′ ∙ pop-long _ (start .long .bytes-long) in
+      let one = put-fifo-at start after q m f in
+      let v′ : v ≡ (stateOf l .registers .count - 1) % 256 = h ∙ ap (λ (x : State). (x .registers .count - 1) % 256) i in
+      let two = put-low-at one after₂ (stateOf l .registers .count - 1) v v′ g (omega (arith, n)) in
+      let three = put-last-at two after₃ 1 (Was DataOut) k refl in
+      replied _ _ _ _ (byte-sent (stateOf l) d b bad)
+      (record {
+        number = ap (λ (x : ℕ). 256 * x) (y ∙ ap (λ (x : State). front (x .fifo)) i) ∙ sym (zero-add _);
+        image = three .image ∙ ap (λ (r : Fifo). imageOf (setLast (Was DataOut) (setCount (stateOf l .registers .count - 1) (setFifo r (stateOf l))))) p′;
+      })
+
+  -- a test of the state as the code reads it
+  pub said : (P : State → Bool) (t : State) (r : Bool) → t ≡ pick (eqb (length l) 53) (stateOf l) fresh → r ≡ P t → r ≡ true
+      → P (stateOf l) ≡ true
+  said P t r e f h = sym (ap P (state-is l t o e)) ∙ sym f ∙ h
+
+  -- a call made on the state, and the whole image written
+  pub whole-made : (f : State → Reply) (t : State) (r : Reply) (n : ℕ) (after : List ℕ)
+      → t ≡ pick (eqb (length l) 53) (stateOf l) fresh → r ≡ f t → n ≡ result (r .answer)
+      → after ≡ pick (eqb (length l) 53) (imageOf (r .state)) l → Made (f (stateOf l)) n after
+  whole-made f t r n after e g a b =
+      replied _ _ _ _ (sym (g ∙ ap f (state-is l t o e))) (finished l r n after (o .valid) a b)
+
+-- which Request it is
+
+pub takes-is : (p : ℕ) (bad x : Bool) → both (eqb p 1) (pick bad false x) ≡ true → (p ≡ 1) × (bad ≡ false) × (x ≡ true)
+takes-is p bad x e =
+    let r = unless bad x (both-right _ _ e) in
+    (eqb-true p 1 (both-left _ _ e), r .0, r .1)
+
+pub sends-is : (p : ℕ) (x : Bool) → both (eqb p 0) x ≡ true → (p ≡ 0) × (x ≡ true)
+sends-is p x e = (eqb-true p 0 (both-left _ _ e), both-right _ _ e)
+
+pub taken-request : (p b n : ℕ) (bad : Bool) (s : State) (after : List ℕ) → p ≡ 1 → bad ≡ false
+    → Made (requested DataIn b false s) n after → Made (requested (phaseOf p) b bad s) n after
+unfolding phaseOf pick
+taken-request p b n bad s after e f m = rw (e, f) m
+
+pub sent-request : (p b n : ℕ) (bad : Bool) (s : State) (after : List ℕ) → p ≡ 0
+    → Made (requested DataOut b bad s) n after → Made (requested (phaseOf p) b bad s) n after
+unfolding phaseOf pick
+sent-request p b n bad s after e m = rw e m
+
+-- a read asks for no byte
+pub read-alike : (b : ℕ) (s : State) → accessed false b s ≡ accessed false 0 s
+unfolding accessed accessedAt pick
+read-alike b s = refl

@@ -1,0 +1,55 @@
+-- `controller::in_place::byte_sent` meets its contract.
+use Rattle.controller.proofs.InPlace.{state-is}
+use Rattle.controller.proofs.Steps.{low-enough-out, sent-made}
+use borrow.Author.Needs.{needs}
+use Rattle.controller.proofs.in_place.byte_sent.Statement.{statement}
+use Rattle.controller.proofs.in_place.byte_sent.Tie as tie
+
+state-requires : tie.Need-state-requires
+state-requires c κs = search needs
+
+low-after-requires : tie.Need-low-after-requires
+low-after-requires c κs = rw (state-is _ _ (c .before .before .before .before .pre .0) (c .before .state .ensures)) (low-enough-out _ (c .before .before .before .before .pre .0) (c .before .before .before .before .pre .1))
+
+pop-requires : tie.Need-pop-requires
+pop-requires c κs = search needs
+
+put-fifo-requires : tie.Need-put-fifo-requires
+put-fifo-requires c κs = search needs
+
+put-count-low-requires : tie.Need-put-count-low-requires
+put-count-low-requires c κs = search needs
+
+put-last-requires : tie.Need-put-last-requires
+put-last-requires c κs = search needs
+
+front-requires : tie.Need-front-requires
+front-requires c κs = search needs
+
+cast-result : tie.Need-cast-result
+cast-result c = search needs
+
+mul-result : tie.Need-mul-result
+mul-result c = search needs
+
+same-length : tie.Need-same-length
+same-length c = search needs
+
+returns : tie.Need-returns
+returns c = sent-made _ (c .before .before .before .before .before .before .before .before .before .before .before .before .before .before .before .before .before .before .before .pre .0) _ _ _ _ _ _ _ _ _ (c .before .before .before .before .before .before .before .before .before .before .before .before .before .before .before .before .before .before .before .pre .1) (c .before .before .before .before .before .before .before .before .before .before .before .before .before .before .before .before .state .ensures) (c .before .before .before .before .before .before .before .before .before .before .before .before .before .before .low-after .ensures) (c .before .before .before .before .before .before .before .before .before .before .before .before .before .pop .ensures) (c .front .ensures) (c .before .before .before .before .before .before .before .before .before .before .before .put-fifo .ensures) (c .before .before .before .before .before .before .before .put-count-low .ensures) (c .before .before .before .put-last .ensures)
+
+pub byte-sent-spec : {M : Type 1} → statement M
+byte-sent-spec =
+    tie.close
+    (tie.spec
+    state-requires
+    low-after-requires
+    pop-requires
+    put-fifo-requires
+    put-count-low-requires
+    put-last-requires
+    front-requires
+    cast-result
+    mul-result
+    same-length
+    returns)

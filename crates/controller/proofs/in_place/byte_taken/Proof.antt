@@ -1,0 +1,43 @@
+-- `controller::in_place::byte_taken` meets its contract.
+use Rattle.controller.proofs.InPlace.{state-is}
+use Rattle.controller.proofs.Steps.{low-enough, taken-made}
+use borrow.Author.Needs.{needs}
+use Rattle.controller.proofs.in_place.byte_taken.Statement.{statement}
+use Rattle.controller.proofs.in_place.byte_taken.Tie as tie
+
+state-requires : tie.Need-state-requires
+state-requires c κs = search needs
+
+low-after-requires : tie.Need-low-after-requires
+low-after-requires c κs = rw (state-is _ _ (c .before .before .before .pre .0) (c .state .ensures)) (low-enough _ (c .before .before .before .pre .0) (c .before .before .before .pre .1))
+
+put-newest-requires : tie.Need-put-newest-requires
+put-newest-requires c κs = search needs
+
+put-count-low-requires : tie.Need-put-count-low-requires
+put-count-low-requires c κs = search needs
+
+put-last-requires : tie.Need-put-last-requires
+put-last-requires c κs = search needs
+
+mul-result : tie.Need-mul-result
+mul-result c = search needs
+
+same-length : tie.Need-same-length
+same-length c = search needs
+
+returns : tie.Need-returns
+returns c = taken-made _ (c .before .before .before .before .before .before .before .before .before .before .before .before .before .before .before .before .pre .0) _ _ _ _ _ _ (c .before .before .before .before .before .before .before .before .before .before .before .before .before .before .before .before .pre .1) (c .before .before .before .before .before .before .before .before .before .before .before .before .before .state .ensures) (c .before .before .before .before .before .before .before .before .before .before .before .before .low-after .ensures) (c .before .before .before .before .before .before .before .before .before .before .put-newest .ensures) (c .before .before .before .before .before .before .put-count-low .ensures) (c .before .before .put-last .ensures)
+
+pub byte-taken-spec : {M : Type 1} → statement M
+byte-taken-spec =
+    tie.close
+    (tie.spec
+    state-requires
+    low-after-requires
+    put-newest-requires
+    put-count-low-requires
+    put-last-requires
+    mul-result
+    same-length
+    returns)

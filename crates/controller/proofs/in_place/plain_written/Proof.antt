@@ -1,0 +1,39 @@
+-- `controller::in_place::plain_written` meets its contract.
+use Prim.Native.Nat.{_<_}
+use native.Mathlib.Omega.{arith}
+use Rattle.controller.proofs.Steps.{length-is, plain-below, plain-written}
+use borrow.Author.Needs.{needs}
+use Rattle.controller.proofs.in_place.plain_written.Statement.{statement}
+use Rattle.controller.proofs.in_place.plain_written.Tie as tie
+
+byte-fits : (c : tie.Start) → c .args .byte < 256
+byte-fits c = omega (arith, c .fits)
+
+slice-read-a : tie.Need-slice-read-a
+slice-read-a c = omega (arith, length-is _ (c .before .before .pre .0))
+
+put-register-requires : tie.Need-put-register-requires
+put-register-requires c κs = search needs
+
+add-put-pointer : tie.Need-add-put-pointer
+add-put-pointer c = omega (arith, plain-below _ (c .before .before .before .before .before .before .pre .0) (c .before .before .before .before .before .before .pre .1))
+
+put-pointer-requires : tie.Need-put-pointer-requires
+put-pointer-requires c κs = search needs
+
+same-length : tie.Need-same-length
+same-length c = search needs
+
+returns : tie.Need-returns
+returns c = plain-written _ (c .before .before .before .before .before .before .before .before .before .before .pre .0) _ _ _ (c .before .before .before .before .before .before .before .before .before .before .pre .1) (byte-fits (c .before .before .before .before .before .before .before .before .before .before)) (c .before .before .before .before .before .before .put-register .ensures) (c .before .before .put-pointer .ensures)
+
+pub plain-written-spec : {M : Type 1} → statement M
+plain-written-spec =
+    tie.close
+    (tie.spec
+    slice-read-a
+    put-register-requires
+    add-put-pointer
+    put-pointer-requires
+    same-length
+    returns)

@@ -1,0 +1,61 @@
+-- `controller::in_place::register_read` meets its contract.
+use Rattle.quick.specs.Quick.{isPlain, readsData}
+use Rattle.chip.specs.Registers.{accessed}
+use mathlib.Core.Bool.{false}
+use Rattle.controller.proofs.Steps.{said}
+use borrow.Author.Needs.{needs}
+use Rattle.controller.proofs.in_place.register_read.Statement.{statement}
+use Rattle.controller.proofs.in_place.register_read.Tie as tie
+
+state-requires : tie.Need-state-requires
+state-requires c κs = search needs
+
+is-plain-requires : tie.Need-is-plain-requires
+is-plain-requires c κs = search needs
+
+plain-read-requires : tie.Need-plain-read-requires
+plain-read-requires c κs = (c .before .before .before .before .before .before .pre, said _ (c .before .before .before .before .before .before .pre) isPlain _ _ (c .before .before .before .state .ensures) (c .before .before .is-plain .ensures) (c .before .if1 .taken))
+
+same-length : tie.Need-same-length
+same-length c = search needs
+
+returns : tie.Need-returns
+returns c = search needs
+
+reads-data-requires : tie.Need-reads-data-requires
+reads-data-requires c κs = search needs
+
+data-read-requires : tie.Need-data-read-requires
+data-read-requires c κs = (c .before .before .before .before .before .before .before .before .pre, said _ (c .before .before .before .before .before .before .before .before .pre) readsData _ _ (c .before .before .before .before .before .state .ensures) (c .before .before .reads-data .ensures) (c .before .if2 .taken))
+
+same-length-2 : tie.Need-same-length-2
+same-length-2 c = search needs
+
+returns-2 : tie.Need-returns-2
+returns-2 c = search needs
+
+read-whole-requires : tie.Need-read-whole-requires
+read-whole-requires c κs = search needs
+
+same-length-3 : tie.Need-same-length-3
+same-length-3 c = search needs
+
+returns-3 : tie.Need-returns-3
+returns-3 c = c .before .before .read-whole .ensures
+
+pub register-read-spec : {M : Type 1} → statement M
+register-read-spec =
+    tie.close
+    (tie.spec
+    state-requires
+    is-plain-requires
+    plain-read-requires
+    same-length
+    returns
+    reads-data-requires
+    data-read-requires
+    same-length-2
+    returns-2
+    read-whole-requires
+    same-length-3
+    returns-3)

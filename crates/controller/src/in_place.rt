@@ -1,0 +1,203 @@
+// Calls made in the image itself: those that room quick names store only the bytes that change. Every other call is made on the
+// state, and the whole image is written.
+ghost use lib.Dec.{eqb};
+ghost use Prim.Native.Nat.{_-_, _%_, _≤_};
+ghost use mathlib.Core.Bool.{false, true};
+ghost use mathlib.Core.Path.{_≡_};
+ghost use Rattle.chip.specs.Calls.{isSet};
+ghost use Rattle.chip.specs.Choice.{both, pick};
+ghost use Rattle.chip.specs.Events.{requested};
+ghost use Rattle.chip.specs.Image.{stateOf};
+ghost use Rattle.chip.specs.Phases.{phaseOf};
+ghost use Rattle.chip.specs.Registers.{accessed, auxiliaryRead, pointerRead, pointerSet};
+ghost use Rattle.controller.specs.Made.{Made};
+ghost use Rattle.fields.specs.Standing.{Standing};
+ghost use Rattle.quick.specs.Quick.{isPlain, readsData, sendsByte, takesByte};
+use crate::finish;
+use bus::request;
+use chip::Phase;
+use chip::State;
+use endings::fifo;
+use state::phases;
+
+pub(crate) fn pointer(mark: u32, byte: u8, image: &mut [u8]) -> u32
+    requires { ⌜ Standing (now image) ⌝ }
+    ensures { λ r. ⌜ Made (pick (isSet mark) (pointerSet byte (stateOf (now (image .entry)))) (pointerRead (stateOf (now (image .entry))))) r (now (image .exit)) ⌝ }
+{
+    if mark == 1 {
+        fields::put_pointer(byte, image);
+        return 0;
+    }
+    let s = image::state(image);
+    256 * (s.status.pointer as u32)
+}
+
+pub(crate) fn auxiliary(image: &mut [u8]) -> u32
+    requires { ⌜ Standing (now image) ⌝ }
+    ensures { λ r. ⌜ Made (auxiliaryRead (stateOf (now (image .entry)))) r (now (image .exit)) ⌝ }
+{
+    let s = image::state(image);
+    let r = host::auxiliary_read(s);
+    let a = r.answer;
+    finish::result(a)
+}
+
+// One of registers 00 to 16h is read.
+fn plain_read(image: &mut [u8]) -> u32
+    requires { ⌜ Standing (now image) × (isPlain (stateOf (now image)) ≡ true) ⌝ }
+    ensures { λ r. ⌜ Made (accessed false 0 (stateOf (now (image .entry)))) r (now (image .exit)) ⌝ }
+{
+    let a = image[25];
+    let at = a as usize;
+    let value = image[at];
+    fields::put_pointer(a + 1, image);
+    256 * (value as u32)
+}
+
+// One of them is written.
+fn plain_written(byte: u8, image: &mut [u8]) -> u32
+    requires { ⌜ Standing (now image) × (isPlain (stateOf (now image)) ≡ true) ⌝ }
+    ensures { λ r. ⌜ Made (accessed true byte (stateOf (now (image .entry)))) r (now (image .exit)) ⌝ }
+{
+    let a = image[25];
+    fields::put_register(a, byte, image);
+    fields::put_pointer(a + 1, image);
+    0
+}
+
+// The oldest byte of the FIFO, for the host.
+fn data_read(image: &mut [u8]) -> u32
+    requires { ⌜ Standing (now image) × (readsData (stateOf (now image)) ≡ true) ⌝ }
+    ensures { λ r. ⌜ Made (accessed false 0 (stateOf (now (image .entry)))) r (now (image .exit)) ⌝ }
+{
+    let s = image::state(image);
+    let q = s.fifo;
+    fields::put_fifo(fifo::pop(q), image);
+    256 * (fifo::front(q) as u32)
+}
+
+// The long ways. tools/native-lib keeps them out of the entries' own code, which then needs few registers.
+
+fn read_whole(image: &mut [u8]) -> u32
+    requires { ⌜ Standing (now image) ⌝ }
+    ensures { λ r. ⌜ Made (accessed false 0 (stateOf (now (image .entry)))) r (now (image .exit)) ⌝ }
+{
+    let s = image::state(image);
+    finish::finish(host::accessed(false, 0, s), image)
+}
+
+fn written_whole(byte: u8, image: &mut [u8]) -> u32
+    requires { ⌜ Standing (now image) ⌝ }
+    ensures { λ r. ⌜ Made (accessed true byte (stateOf (now (image .entry)))) r (now (image .exit)) ⌝ }
+{
+    let s = image::state(image);
+    finish::finish(host::accessed(true, byte, s), image)
+}
+
+fn request_whole(phase: u8, byte: u8, bad: bool, image: &mut [u8]) -> u32
+    requires { ⌜ Standing (now image) ⌝ }
+    ensures { λ r. ⌜ Made (requested (phaseOf phase) byte bad (stateOf (now (image .entry)))) r (now (image .exit)) ⌝ }
+{
+    let s = image::state(image);
+    let p = phases::phase_of(phase);
+    finish::finish(request::requested(p, byte, bad, s), image)
+}
+
+pub(crate) fn register_read(image: &mut [u8]) -> u32
+    requires { ⌜ Standing (now image) ⌝ }
+    ensures { λ r. ⌜ Made (accessed false 0 (stateOf (now (image .entry)))) r (now (image .exit)) ⌝ }
+{
+    let s = image::state(image);
+    if quick::is_plain(s) {
+        return plain_read(image);
+    }
+    if quick::reads_data(s) {
+        return data_read(image);
+    }
+    read_whole(image)
+}
+
+pub(crate) fn register_written(byte: u8, image: &mut [u8]) -> u32
+    requires { ⌜ Standing (now image) ⌝ }
+    ensures { λ r. ⌜ Made (accessed true byte (stateOf (now (image .entry)))) r (now (image .exit)) ⌝ }
+{
+    let s = image::state(image);
+    if quick::is_plain(s) {
+        return plain_written(byte, image);
+    }
+    if quick::writes_data(s) {
+        fields::put_newest(byte, image);
+        return 0;
+    }
+    written_whole(byte, image)
+}
+
+// The low byte of the count, one less.
+fn low_after(s: State) -> u8
+    requires { ⌜ 2 ≤ s .registers .count % 256 ⌝ }
+    ensures { λ r. ⌜ r ≡ (s .registers .count - 1) % 256 ⌝ }
+{
+    (s.registers.count % 256 - 1) as u8
+}
+
+// A byte of Data In, into the FIFO.
+fn byte_taken(byte: u8, image: &mut [u8]) -> u32
+    requires { ⌜ Standing (now image) × (takesByte (stateOf (now image)) ≡ true) ⌝ }
+    ensures { λ r. ⌜ Made (requested Phase.DataIn byte false (stateOf (now (image .entry)))) r (now (image .exit)) ⌝ }
+{
+    let s = image::state(image);
+    let low = low_after(s);
+    fields::put_newest(byte, image);
+    fields::put_count_low(low, image);
+    fields::put_last(2, image);
+    256 * (byte as u32)
+}
+
+// A byte of Data Out, from the FIFO.
+fn byte_sent(byte: u8, bad: bool, image: &mut [u8]) -> u32
+    requires { ⌜ Standing (now image) × (sendsByte (stateOf (now image)) ≡ true) ⌝ }
+    ensures { λ r. ⌜ Made (requested Phase.DataOut byte bad (stateOf (now (image .entry)))) r (now (image .exit)) ⌝ }
+{
+    let s = image::state(image);
+    let q = s.fifo;
+    let low = low_after(s);
+    fields::put_fifo(fifo::pop(q), image);
+    fields::put_count_low(low, image);
+    fields::put_last(1, image);
+    256 * (fifo::front(q) as u32)
+}
+
+fn takes(phase: u8, bad: bool, s: State) -> bool
+    ensures { λ r. ⌜ r ≡ both (eqb phase 1) (pick bad false (takesByte s)) ⌝ }
+{
+    if phase == 1 {
+        if bad {
+            return false;
+        }
+        return quick::takes_byte(s);
+    }
+    false
+}
+
+fn sends(phase: u8, s: State) -> bool
+    ensures { λ r. ⌜ r ≡ both (eqb phase 0) (sendsByte s) ⌝ }
+{
+    if phase == 0 {
+        return quick::sends_byte(s);
+    }
+    false
+}
+
+pub(crate) fn request(phase: u8, byte: u8, bad: bool, image: &mut [u8]) -> u32
+    requires { ⌜ Standing (now image) ⌝ }
+    ensures { λ r. ⌜ Made (requested (phaseOf phase) byte bad (stateOf (now (image .entry)))) r (now (image .exit)) ⌝ }
+{
+    let s = image::state(image);
+    if takes(phase, bad, s) {
+        return byte_taken(byte, image);
+    }
+    if sends(phase, s) {
+        return byte_sent(byte, bad, image);
+    }
+    request_whole(phase, byte, bad, image)
+}
