@@ -1,4 +1,4 @@
-// What the host does: the pointer, auxiliary status, registers, the Data register. The definitions of chip's specs/Registers.antt.
+// What the host does: auxiliary status, registers, the Data register; the pointer alone is set and read in the image (room controller). The definitions of chip's specs/Registers.antt.
 pub mod data_register;
 pub mod register;
 
@@ -6,7 +6,7 @@ ghost use mathlib.Core.Bool.{not};
 ghost use mathlib.Core.Path.{_≡_};
 ghost use Rattle.chip.specs.Choice.{both, either};
 ghost use Rattle.chip.specs.Interrupts.{busy};
-ghost use Rattle.chip.specs.Registers.{accessed, accessedAt, auxiliaryRead, isBlind, pointerAfter, pointerRead, pointerSet, readAt, stepped, writtenAt};
+ghost use Rattle.chip.specs.Registers.{accessed, accessedAt, auxiliaryRead, isBlind, pointerAfter, readAt, stepped, writtenAt};
 ghost use lib.Dec.{eqb};
 use chip::Answer;
 use chip::Reply;
@@ -15,18 +15,6 @@ use endings::interrupts;
 use state::answers;
 use state::get;
 use state::set;
-
-pub fn pointer_read(s: State) -> Reply
-    ensures { λ r. ⌜ r ≡ pointerRead s ⌝ }
-{
-    answers::done(s.status.pointer, s)
-}
-
-pub fn pointer_set(b: u8, s: State) -> Reply
-    ensures { λ r. ⌜ r ≡ pointerSet b s ⌝ }
-{
-    answers::done(0, set::pointer(s, b))
-}
 
 pub fn auxiliary_read(s: State) -> Reply
     ensures { λ r. ⌜ r ≡ auxiliaryRead s ⌝ }
