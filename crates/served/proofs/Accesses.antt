@@ -1,7 +1,8 @@
 -- The host's accesses to 00 to 16h while no command runs, and how a scene is brought on by an access.
 --   point-step, put-step, get-step     the calls
 --   put-done, get-done                 pointer and access together
---   wait-at                            an access is due, and with it made the Target is brought on
+--   wait-at, Attends, attend           an access is due, and with it made the Target is brought on
+--   at-once                            it is brought on already
 use mathlib.Core.Path.{_≡_, refl, sym, _∙_, ap, subst}
 use mathlib.Core.Bool.{Bool, true, false}
 use mathlib.Core.List.{List, [], _∷_, _++_}
@@ -16,6 +17,11 @@ use Rattle.chip.specs.Calls.{pointer, register, Outcome, isGood, carried, step}
 use Rattle.chip.specs.declared.State.{State}
 use Rattle.chip.specs.declared.Answer.the-variants.{Done}
 use Rattle.chip.specs.declared.Registers.{Registers}
+use Rattle.chip.specs.declared.Status.{Status}
+use Rattle.chip.specs.declared.Transfer.{Transfer}
+use Rattle.chip.specs.declared.Noted.{Noted}
+use Rattle.chip.specs.declared.Identity.{Identity}
+use Rattle.chip.specs.declared.Connection.the-variants.{Disconnected}
 use Rattle.chip.specs.declared.Fifo.{Fifo}
 use Rattle.chip.specs.declared.Wire.{Wire}
 use Rattle.chip.specs.declared.Pending.{Pending}
@@ -24,9 +30,10 @@ use Rattle.chip.specs.declared.Running.the-variants.{Idle}
 use Rattle.chip.specs.declared.Phase.{Phase}
 use Rattle.story.specs.Story.{Item}
 use Rattle.story.specs.Hosts.{Access, put, get, Note, note, Host, Program}
-use Rattle.story.specs.Schedule.{Target, Scene, replanned, access, bus, due, attended, isNone, Brought, later}
+use Rattle.story.specs.Schedule.{Target, Scene, replanned, access, bus, due, attended, isNone, onward, calling, Brought, now, later}
 use Rattle.story.proofs.Opening.{scenes}
-use Rattle.served.proofs.Parts.{theStatus, theTransfer, theState, theHost, theScene, storedIn, stored-is}
+use Rattle.served.proofs.Opening.{steps}
+use Rattle.served.proofs.Parts.{theStatus, theTransfer, theState, theHost, theWire, theTarget, theScene, storedIn, stored-is}
 
 abbrev gives : ℕ → State → Outcome
 gives v s = record { answer = Done v; state = s; lent = [] }
@@ -75,3 +82,29 @@ pub wait-at : (g : Program) (c k : Scene) {x : Scene} → bus step g c ≡ k →
 wait-at g c k e f h b =
     later (subst (λ (z : Scene). isNone (due step g z) ≡ false) (sym e) f)
     (subst (λ (z : Scene). Brought step g (attended step g z)) (sym e) (subst (λ (z : Scene). Brought step g z) (sym h) b))
+
+module _ (g : Program) where
+  pub at-once : (c : Scene) → onward step g (c .target .place) c ≡ true → Brought step g c
+  at-once c e = now e
+
+  -- an access is due, and with it made the Target is brought on
+  pub record Attends (c : Scene) : Type 0 where
+    pub asks : isNone (due step g c) ≡ false
+    pub on : Brought step g (attended step g c)
+
+  pub attend : (c : Scene) → Attends (bus step g c) → Brought step g c
+  attend c a = later (a .asks) (a .on)
+
+  pub attend-at : {c k : Scene} → bus step g c ≡ k → Attends k → Brought step g c
+  attend-at {c} e a = attend c (subst (λ (z : Scene). Attends z) (sym e) a)
+
+  -- before the selection the Target calls in vain
+  pub bus-idle : (r : Registers) (st : Status) (q : Fifo) (tr : Transfer) (at ak : Bool) (rp ls : Noted) (id : Identity) (el : ℕ) (h : Host) (pa : ℕ)
+      (t : List Item)
+      → bus step g (theScene (theState r st q tr (theWire Disconnected at ak rp ls id el)) h (theTarget calling pa [] t))
+      ≡ theScene (theState r st q tr (theWire Disconnected at ak rp ls id el)) h (theTarget calling pa [] t)
+  unfolding steps
+  bus-idle r st q tr at ak rp ls id el h pa t = refl
+
+pub none-left : {x : ℕ} (d e : List ℕ) → [] ≡ (x ∷ d) ++ e → ⊥
+none-left d e q = let z : _≡_ {A = ℕ} 0 1 = cc in omega arith

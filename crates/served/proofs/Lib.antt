@@ -4,6 +4,7 @@ pub mod Parts
 pub mod Small
 pub mod TransferScenes
 pub mod Stages
+pub mod Going
 pub mod Time
 pub mod TransferSteps
 pub mod Polling

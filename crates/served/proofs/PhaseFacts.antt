@@ -25,7 +25,7 @@ use Rattle.story.specs.Story.{Item, item, items, Job}
 use Rattle.story.specs.Hosts.{Access, put, Note, Host, planned, countPuts, leftGets, countFor, serving, phasesHeard}
 use Rattle.served.proofs.Parts.{theRegisters, storedIn, Plays, over, puts, gets}
 use Rattle.served.proofs.Small.{items-snoc}
-use Rattle.served.proofs.PhaseScenes.{Seg, seg, ins, notesOf, notesAfter, Names, asked, Fits, Good, last, more, Tale, Heard, Noting, Counted, Going}
+use Rattle.served.proofs.PhaseScenes.{Seg, seg, ins, notesOf, notesAfter, Names, asked, Fits, Good, last, more, Tale, Heard, Noting, Counted}
 use Rattle.served.proofs.PhaseScenes as S
 
 pub phase-round : (p : Phase) → phaseOf (phaseNumber p) ≡ p

@@ -32,6 +32,8 @@ use Rattle.story.specs.Story.{Item, item, items, Job}
 use Rattle.story.specs.Hosts.{Access, put, Note, note, countFor, giveFor}
 use Rattle.story.specs.Schedule.{calling, talking, away, Scene}
 use Rattle.served.proofs.Parts.{theRegisters, theStatus, theTransfer, theWire, theState, theHost, theTarget, theScene, Aimed, Polls, Plays}
+use Rattle.served.proofs.Time.{Spared}
+use Rattle.served.proofs.Going.{Going}
 use Rattle.served.proofs.Queue.{Lined}
 use Rattle.served.proofs.Small.{Quiet, isSome, canSend}
 
@@ -93,13 +95,6 @@ module _ (j : Job) (whole : List Item) (total : List Note) where
 
   pub record Noting (had rest : List Note) : Type 0 where
     pub all : had ++ rest ≡ total
-
-  pub record Going (fifo rest give x : List ℕ) : Type 0 where
-    pub line : fifo ++ give ≡ rest ++ x
-    pub bytes : Bytes give
-
-  pub record Spared (timeout elapsed patience : ℕ) : Type 0 where
-    pub time : (timeout ≡ 0) ⊎ (elapsed + patience ≤ timeout)
 
   -- the goal of what the host loads before the selection
   pub record Ready (r : Registers) (n : List Note) : Type 0 where

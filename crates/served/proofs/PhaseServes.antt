@@ -37,40 +37,17 @@ use Rattle.served.proofs.Opening.{steps}
 use Rattle.served.proofs.Parts.{theRegisters, theStatus, theTransfer, theWire, theState, theHost, theTarget, theScene, Plays, over, puts, gets, Aimed, Polled, coded, taken, sent, Polls, look, seen, ready}
 use Rattle.served.proofs.Queue.{Lined, none-lined, empty-none, empty-some, room-is, waits-is, front-is, fits, popped, pushed}
 use Rattle.served.proofs.Small.{true-or-false, asked-is, Quiet, unfixed, drained}
-use Rattle.served.proofs.Accesses.{put-done, get-done, wait-at}
+use Rattle.served.proofs.Accesses.{put-done, get-done, wait-at, at-once, Attends, attend, attend-at, bus-idle, none-left}
+use Rattle.served.proofs.Going.{Going, owed-out}
 use Rattle.served.proofs.Polling.{any-poll}
 use Rattle.served.proofs.PhaseFacts.{phase-round, phase-small, same-phase, shown-byte, single-info, heard-11, heard-20, heard-85, heard-named, good-byte, noting-on, plays-phase}
-use Rattle.served.proofs.PhaseScenes.{Seg, seg, flat, ins, notesOf, notesAfter, Names, Fits, Good, last, more, After, next, Tale, Heard, Noting, Going, Ready, Counted, polls, Begins, Sends, Takes, Closes, Drains, Ends, Reach, begins, sending, taking, closing, draining, ends, loads, seeks, greets, waits, named, sends, takes, closes, drains, pauses, paused, calm, gone, rests}
+use Rattle.served.proofs.PhaseScenes.{Seg, seg, flat, ins, notesOf, notesAfter, Names, Fits, Good, last, more, After, next, Tale, Heard, Noting, Ready, Counted, polls, Begins, Sends, Takes, Closes, Drains, Ends, Reach, begins, sending, taking, closing, draining, ends, loads, seeks, greets, waits, named, sends, takes, closes, drains, pauses, paused, calm, gone, rests}
 use Rattle.served.proofs.PhaseScenes as S
-use Rattle.served.proofs.PhaseSteps.{bus-step, pass-step, work-step, owed-out, good-small}
+use Rattle.served.proofs.PhaseSteps.{bus-step, pass-step, work-step, good-small}
 
 module _ (j : Job) (whole : List Item) (total : List Note) where
   abbrev B : Scene → Type 0
   B c = Brought step (byPhases j) c
-
-  at-once : (c : Scene) → onward step (byPhases j) (c .target .place) c ≡ true → B c
-  at-once c e = now e
-
-  -- an access is due, and with it made the Target is brought on
-  record Attends (c : Scene) : Type 0 where
-    asks : isNone (due step (byPhases j) c) ≡ false
-    on : B (attended step (byPhases j) c)
-
-  attend : (c : Scene) → Attends (bus step (byPhases j) c) → B c
-  attend c a = later (a .asks) (a .on)
-
-  none-left : {x : ℕ} (d e : List ℕ) → [] ≡ (x ∷ d) ++ e → ⊥
-  none-left d e q = let z : _≡_ {A = ℕ} 0 1 = cc in omega arith
-
-  attend-at : {c k : Scene} → bus step (byPhases j) c ≡ k → Attends k → B c
-  attend-at {c} e a = attend c (subst (λ (z : Scene). Attends z) (sym e) a)
-
-  -- before the selection the Target calls in vain
-  bus-idle : (r : Registers) (st : Status) (q : Fifo) (tr : Transfer) (at ak : Bool) (rp ls : Noted) (id : Identity) (el : ℕ) (h : Host) (pa : ℕ) (t : List Item)
-      → bus step (byPhases j) (theScene (theState r st q tr (theWire Disconnected at ak rp ls id el)) h (theTarget calling pa [] t))
-      ≡ theScene (theState r st q tr (theWire Disconnected at ak rp ls id el)) h (theTarget calling pa [] t)
-  unfolding steps
-  bus-idle r st q tr at ak rp ls id el h pa t = refl
 
   -- a phase that is reported is Held while no command runs
   bus-named : (r : Registers) (x c m : ℕ) (l e : Bool) (q : Fifo) (d : Direction) (o at : Bool) (ls : Noted) (id : Identity) (el : ℕ) (h : Host) (pa : ℕ) (log : List Item)
@@ -91,20 +68,20 @@ module _ (j : Job) (whole : List Item) (total : List Note) where
       {t : List Item} {p : Phase} {log got : List Item} {n : List Note} (z b : ℕ) (rest give : List ℕ)
       → comesIn p ≡ false
       → Lined q []
-      → Going j whole total [] (b ∷ rest) (z ∷ give) y
-      → Attends
+      → Going [] (b ∷ rest) (z ∷ give) y
+      → Attends (byPhases j)
       (theScene
       (theState (theRegisters ow ct tm cd lu ph sy (length (b ∷ rest) + length y) ds sr) (theStatus x c m l e Nothing) q (theTransfer TransferInfo Out false)
       (theWire Connected at false (Was p) ls id el)) (theHost [] false p (z ∷ give) got n) (theTarget talking pa log (item p b ∷ t)))
   unfolding steps
   give-on {y = y} {p = p} z b rest give e k s =
       record {
-        asks = rw (asked-is, waits-is k, owed-out j whole total s, room-is k);
+        asks = rw (asked-is, waits-is k, owed-out s, room-is k);
         on =
-            rw (asked-is, waits-is k, owed-out j whole total s, room-is k)
+            rw (asked-is, waits-is k, owed-out s, room-is k)
             (rw e
-            (rw (lt-ltb z 256 (s .bytes 0), waits-is k, owed-out j whole total s, room-is k)
-            (at-once _
+            (rw (lt-ltb z 256 (s .bytes 0), waits-is k, owed-out s, room-is k)
+            (at-once (byPhases j) _
             (rw (phase-small p, phase-round p, e, same-phase p, ne-eqb (suc (length rest) + length y) 0 (omega arith), empty-some (pushed z k (omega arith)))))));
       }
 
@@ -112,17 +89,17 @@ module _ (j : Job) (whole : List Item) (total : List Note) where
       {t : List Item} {p : Phase} {log got : List Item} {n : List Note} (fifo : List ℕ) (b : ℕ) (rest give : List ℕ)
       → comesIn p ≡ false
       → Lined q fifo
-      → Going j whole total fifo (b ∷ rest) give y
+      → Going fifo (b ∷ rest) give y
       → B
       (theScene
       (theState (theRegisters ow ct tm cd lu ph sy (length (b ∷ rest) + length y) ds sr) (theStatus x c m l e Nothing) q (theTransfer TransferInfo Out false)
       (theWire Connected at false (Was p) ls id el)) (theHost [] false p give got n) (theTarget talking pa log (item p b ∷ t)))
   unfolding steps
   send-on {y = y} {p = p} (z ∷ fifo) b rest give e k s =
-      at-once _ (rw (phase-small p, phase-round p, e, same-phase p, ne-eqb (suc (length rest) + length y) 0 (omega arith), empty-some k))
+      at-once (byPhases j) _ (rw (phase-small p, phase-round p, e, same-phase p, ne-eqb (suc (length rest) + length y) 0 (omega arith), empty-some k))
   send-on {y = y} [] b rest [] e k s = absurd (none-left rest y (s .line))
   send-on {y = y} {p = p} [] b rest (z ∷ give) e k s =
-      attend _
+      attend (byPhases j) _
       (rw (phase-small p, phase-round p, e, same-phase p, ne-eqb (suc (length rest) + length y) 0 (omega arith), empty-none k)
       (give-on z b rest give e k s))
 
@@ -133,7 +110,7 @@ module _ (j : Job) (whole : List Item) (total : List Note) where
       → isMessageIn p ≡ false
       → Lined q (z ∷ u ∷ fifo)
       → b < 256
-      → Attends
+      → Attends (byPhases j)
       (theScene
       (theState (theRegisters ow ct tm cd lu ph sy (length (b ∷ rest) + length y) ds sr) (theStatus x c m l e Nothing) q (theTransfer TransferInfo In false)
       (theWire Connected at false (Was p) ls id el)) (theHost [] false p v got n) (theTarget talking pa log (item p b ∷ t)))
@@ -145,7 +122,7 @@ module _ (j : Job) (whole : List Item) (total : List Note) where
             rw (asked-is, empty-some k)
             (rw e
             (rw (empty-some k, front-is k, empty-some (popped k))
-            (at-once _
+            (at-once (byPhases j) _
             (rw (
               phase-small p,
               phase-round p,
@@ -170,12 +147,12 @@ module _ (j : Job) (whole : List Item) (total : List Note) where
       (theState (theRegisters ow ct tm cd lu ph sy (length (b ∷ rest) + length y) ds sr) (theStatus x c m l e Nothing) q (theTransfer TransferInfo In false)
       (theWire Connected at false (Was p) ls id el)) (theHost [] false p v got n) (theTarget talking pa log (item p b ∷ t)))
   unfolding steps
-  take-on {p = p} [] b rest y e i k h = at-once _ (rw (phase-small p, phase-round p, e, lt-ltb b 256 h, same-phase p, ne-eqb (suc (length rest) + length y) 0 (omega arith), room-is k, i))
-  take-on {p = p} (z ∷ []) b rest y e i k h = at-once _ (rw (phase-small p, phase-round p, e, lt-ltb b 256 h, same-phase p, ne-eqb (suc (length rest) + length y) 0 (omega arith), room-is k, i))
+  take-on {p = p} [] b rest y e i k h = at-once (byPhases j) _ (rw (phase-small p, phase-round p, e, lt-ltb b 256 h, same-phase p, ne-eqb (suc (length rest) + length y) 0 (omega arith), room-is k, i))
+  take-on {p = p} (z ∷ []) b rest y e i k h = at-once (byPhases j) _ (rw (phase-small p, phase-round p, e, lt-ltb b 256 h, same-phase p, ne-eqb (suc (length rest) + length y) 0 (omega arith), room-is k, i))
   take-on {p = p} (z ∷ u ∷ fifo) b rest y e i k h =
       ⊎-elim
-      (λ r. at-once _ (rw (phase-small p, phase-round p, e, lt-ltb b 256 h, same-phase p, ne-eqb (suc (length rest) + length y) 0 (omega arith), room-is k, r, i)))
-      (λ r. attend _ (rw (phase-small p, phase-round p, e, lt-ltb b 256 h, same-phase p, ne-eqb (suc (length rest) + length y) 0 (omega arith), room-is k, r) (read-on z u fifo b rest y e i k h)))
+      (λ r. at-once (byPhases j) _ (rw (phase-small p, phase-round p, e, lt-ltb b 256 h, same-phase p, ne-eqb (suc (length rest) + length y) 0 (omega arith), room-is k, r, i)))
+      (λ r. attend (byPhases j) _ (rw (phase-small p, phase-round p, e, lt-ltb b 256 h, same-phase p, ne-eqb (suc (length rest) + length y) 0 (omega arith), room-is k, r) (read-on z u fifo b rest y e i k h)))
       (true-or-false (ltb (length (z ∷ u ∷ fifo)) 12))
 
   -- the phase's count is loaded, and Transfer Info written
@@ -183,14 +160,14 @@ module _ (j : Job) (whole : List Item) (total : List Note) where
       {bs y : List ℕ} {g : List Seg} {p : Phase} {log got : List Item} {n rest : List Note}
       → Counted j whole total p rest r n
       → Good j whole total (seg p bs y ∷ g)
-      → Attends
+      → Attends (byPhases j)
       (theScene (theState r (theStatus x c m l e Nothing) q (theTransfer Idle d o) (theWire Connected at false (Was p) ls id el))
       (theHost (put 0x18 0x20 ∷ []) f p (giveFor j p) got n) (theTarget talking pa log (flat (seg p bs y ∷ g))))
   unfolding steps
   command-on k (last h) =
       record {
         asks = refl;
-        on = rw (single-info, k .count) (at-once _ (rw (lt-ltb _ 256 h, phase-round MessageIn, room-is none-lined)));
+        on = rw (single-info, k .count) (at-once (byPhases j) _ (rw (lt-ltb _ 256 h, phase-round MessageIn, room-is none-lined)));
       }
   command-on {p = p} k (more {b = b} {bs = bs} {x = x} f a z g) =
       record {
@@ -214,7 +191,7 @@ module _ (j : Job) (whole : List Item) (total : List Note) where
       (theScene (theState r (theStatus x c m l e Nothing) q (theTransfer Idle d o) (theWire Connected at false (Was p) ls id el))
       (theHost td f p (giveFor j p) got n) (theTarget talking pa log (flat (seg p bs y ∷ g))))
   unfolding scenes
-  code-on (over k) w = attend-at (bus-named _ _ _ _ _ _ _ _ _ _ _ _ _ _ _ _ w) (command-on k w)
+  code-on (over k) w = attend-at (byPhases j) (bus-named _ _ _ _ _ _ _ _ _ _ _ _ _ _ _ _ w) (command-on k w)
   code-on {c = c} {m = m} {x = x} {l = l} {e = e} {o = o} {f = f} {q = q} {d = d} {td = td} {r = r} {p = ph} {got = got} {n = n} (puts {a = a} {b = b} {l = k} u h p) w =
       wait-at (byPhases j) _ _ (bus-named _ _ _ _ _ _ _ _ _ _ _ _ _ _ _ _ w) refl
       (put-done r c m l e Nothing q d o _ refl (byPhases j) ph (giveFor j ph) got n _ x f td k a b u h) (code-on p w)
@@ -228,7 +205,7 @@ module _ (j : Job) (whole : List Item) (total : List Note) where
       → Names c p
       → Good j whole total (seg p bs y ∷ g)
       → Noting j whole total n (notesOf cr (r .count) ++ notesAfter (seg p bs y ∷ g))
-      → Attends
+      → Attends (byPhases j)
       (theScene (theState r (theStatus x c m l e Interrupt) q (theTransfer Idle d o) (theWire Connected at false (Was p) ls id el))
       (theHost [] false cr v got n) (theTarget talking pa log (flat (seg p bs y ∷ g))))
   unfolding steps serving
@@ -271,7 +248,7 @@ module _ (j : Job) (whole : List Item) (total : List Note) where
       → Names k p
       → Good j whole total (seg p bs y ∷ g)
       → Noting j whole total n (notesOf cr lf ++ notesAfter (seg p bs y ∷ g))
-      → Attends
+      → Attends (byPhases j)
       (theScene
       (theState (theRegisters ow ct tm cd lu ph sy lf ds sr) (theStatus x c m l e (Ending k)) q (theTransfer TransferInfo In o)
       (theWire Connected at false (Was p) ls id el)) (theHost [] false cr v got n) (theTarget talking pa log (flat (seg p bs y ∷ g))))
@@ -281,14 +258,14 @@ module _ (j : Job) (whole : List Item) (total : List Note) where
         asks = rw (asked-is, empty-some k);
         on =
             rw (asked-is, empty-some k)
-            (rw e (rw (empty-some k, front-is k, empty-none (popped k)) (attend-at (bus-coded _ _ _ _ _ _ _ _ _ _ _ _ _ _ _ _ w) (name-on c w t))));
+            (rw e (rw (empty-some k, front-is k, empty-none (popped k)) (attend-at (byPhases j) (bus-coded _ _ _ _ _ _ _ _ _ _ _ _ _ _ _ _ w) (name-on c w t))));
       }
   drain-on (z ∷ fifo) e k c w t =
       record {
         asks = rw (asked-is, empty-some k);
         on =
             rw (asked-is, empty-some k)
-            (rw e (rw (empty-some k, front-is k, empty-some (popped k)) (attend-at (bus-ending _ _ _ _ _ _ _ _ _ _ _ _ _ _ _ _ _ _ w) (drain-on fifo e (popped k) c w t))));
+            (rw e (rw (empty-some k, front-is k, empty-some (popped k)) (attend-at (byPhases j) (bus-ending _ _ _ _ _ _ _ _ _ _ _ _ _ _ _ _ _ _ w) (drain-on fifo e (popped k) c w t))));
       }
 
   -- the selection
@@ -297,7 +274,7 @@ module _ (j : Job) (whole : List Item) (total : List Note) where
       (theScene (theState r (theStatus x c m l e Nothing) q (theTransfer Idle d o) (theWire Disconnected at false rp ls id el))
       (theHost (put 0x18 0x06 ∷ []) f MessageOut [] [] n) (theTarget calling pa [] t))
   unfolding steps
-  select-on = attend _ (record { asks = refl; on = now refl })
+  select-on = attend (byPhases j) _ (record { asks = refl; on = now refl })
 
   load-on : {c m x pa el : ℕ} {l e at o f : Bool} {q : Fifo} {d : Direction} {rp ls : Noted} {id : Identity} {td : List Access} {r : Registers}
       {n : List Note} {t : List Item}
@@ -308,10 +285,10 @@ module _ (j : Job) (whole : List Item) (total : List Note) where
   unfolding scenes
   load-on (over g) = select-on
   load-on {c = c} {m = m} {x = x} {l = l} {e = e} {o = o} {f = f} {q = q} {d = d} {td = td} {r = r} {n = n} (puts {a = a} {b = b} {l = k} u h p) =
-      wait-at (byPhases j) _ _ (bus-idle _ _ _ _ _ _ _ _ _ _ _ _ _) refl
+      wait-at (byPhases j) _ _ (bus-idle (byPhases j) _ _ _ _ _ _ _ _ _ _ _ _ _) refl
       (put-done r c m l e Nothing q d o _ refl (byPhases j) MessageOut [] [] n _ x f td k a b u h) (load-on p)
   load-on {c = c} {m = m} {x = x} {l = l} {e = e} {o = o} {f = f} {q = q} {d = d} {td = td} {r = r} {n = n} (gets {a = a} {l = k} u p) =
-      wait-at (byPhases j) _ _ (bus-idle _ _ _ _ _ _ _ _ _ _ _ _ _) refl
+      wait-at (byPhases j) _ _ (bus-idle (byPhases j) _ _ _ _ _ _ _ _ _ _ _ _ _) refl
       (get-done r c m l e Nothing q d o _ refl (byPhases j) MessageOut [] [] n _ x f td k a u) (load-on p)
 
   -- the first phase is reported, after 11h
@@ -323,18 +300,18 @@ module _ (j : Job) (whole : List Item) (total : List Note) where
       (theScene (theState r (theStatus x c m l e Nothing) q (theTransfer Idle d o) (theWire Connected at false NoPhase ls id el))
       (theHost [] false MessageOut [] [] n) (theTarget talking pa [] (flat g)))
   unfolding steps
-  wait-on unfixed (last h) t = attend _ (rw (lt-ltb _ 256 h, phase-round MessageIn) (name-on S.asked (last h) t))
+  wait-on unfixed (last h) t = attend (byPhases j) _ (rw (lt-ltb _ 256 h, phase-round MessageIn) (name-on S.asked (last h) t))
   wait-on unfixed (more {p = ph} {b = b} f a d g) t =
-      attend _ (rw (phase-small ph, shown-byte (comesIn ph) b (f .bytes 0), phase-round ph) (name-on S.asked (more f a d g) t))
-  wait-on (drained z) (last h) t = attend _ (rw (lt-ltb _ 256 h, phase-round MessageIn) (name-on S.asked (last h) t))
+      attend (byPhases j) _ (rw (phase-small ph, shown-byte (comesIn ph) b (f .bytes 0), phase-round ph) (name-on S.asked (more f a d g) t))
+  wait-on (drained z) (last h) t = attend (byPhases j) _ (rw (lt-ltb _ 256 h, phase-round MessageIn) (name-on S.asked (last h) t))
   wait-on (drained z) (more {p = ph} {b = b} f a d g) t =
-      attend _ (rw (phase-small ph, shown-byte (comesIn ph) b (f .bytes 0), phase-round ph) (name-on S.asked (more f a d g) t))
+      attend (byPhases j) _ (rw (phase-small ph, shown-byte (comesIn ph) b (f .bytes 0), phase-round ph) (name-on S.asked (more f a d g) t))
 
   greet-on : {m x pa el : ℕ} {l e at o : Bool} {q : Fifo} {d : Direction} {ls : Noted} {id : Identity} {r : Registers} {g : List Seg} {n : List Note}
       → Quiet d q
       → Good j whole total g
       → Noting j whole total n (notesAfter g)
-      → Attends
+      → Attends (byPhases j)
       (theScene (theState r (theStatus x 0x11 m l e Interrupt) q (theTransfer Idle d o) (theWire Connected at false NoPhase ls id el))
       (theHost [] false MessageOut [] [] n) (theTarget talking pa [] (flat g)))
   unfolding steps
@@ -348,9 +325,9 @@ module _ (j : Job) (whole : List Item) (total : List Note) where
       (theScene (theState r (theStatus x 0x11 m l e Interrupt) q (theTransfer Idle d o) (theWire Connected at false NoPhase ls id el))
       (theHost [] false MessageOut [] [] n) (theTarget talking pa [] (flat g)))
   unfolding steps
-  greet-held k (last h) t = attend _ (rw (lt-ltb _ 256 h) (greet-on k (last h) t))
+  greet-held k (last h) t = attend (byPhases j) _ (rw (lt-ltb _ 256 h) (greet-on k (last h) t))
   greet-held k (more {p = ph} {b = b} f a d g) t =
-      attend _ (rw (phase-small ph, shown-byte (comesIn ph) b (f .bytes 0)) (greet-on k (more f a d g) t))
+      attend (byPhases j) _ (rw (phase-small ph, shown-byte (comesIn ph) b (f .bytes 0)) (greet-on k (more f a d g) t))
 
   -- a phase is over: another is offered
   next-on : {c m x pa el ow ct tm lu ph sy ds sr : ℕ} {l e at : Bool} {q : Fifo} {ls : Noted} {id : Identity} {cd v : List ℕ}
@@ -363,7 +340,7 @@ module _ (j : Job) (whole : List Item) (total : List Note) where
       (theWire Connected at false (Was p) ls id el)) (theHost [] false p v got n) (theTarget talking pa log (flat g)))
   unfolding steps
   next-on {p = p} y (next {q = q} {c = c} {cs = cs} {y = y′} {gs = gs} z d g) t =
-      attend _
+      attend (byPhases j) _
       (rw (phase-small q, shown-byte (comesIn q) c (good-byte g), phase-round q, d)
       (name-on (S.over (eqb (0 + length y) 0)) g (noting-on (seg q (c ∷ cs) y′ ∷ gs) p (length y) t)))
 
@@ -379,11 +356,11 @@ module _ (j : Job) (whole : List Item) (total : List Note) where
       (theWire Connected at false (Was p) ls id el)) (theHost [] false p v got n) (theTarget talking pa log (flat g)))
   unfolding steps
   turn-on {p = p} [] y e k (next {q = q} {c = c} {cs = cs} {y = y′} {gs = gs} z d g) t =
-      attend _
+      attend (byPhases j) _
       (rw (phase-small q, shown-byte (comesIn q) c (good-byte g), phase-round q, d, empty-none k)
       (name-on (S.over (eqb (0 + length y) 0)) g (noting-on (seg q (c ∷ cs) y′ ∷ gs) p (length y) t)))
   turn-on {p = p} (b ∷ fifo) y e k (next {q = q} {c = c} {cs = cs} {y = y′} {gs = gs} z d g) t =
-      attend _
+      attend (byPhases j) _
       (rw (phase-small q, shown-byte (comesIn q) c (good-byte g), phase-round q, d, empty-some k)
       (drain-on fifo e k (S.over (eqb (0 + length y) 0)) g (noting-on (seg q (c ∷ cs) y′ ∷ gs) p (length y) t)))
 
@@ -394,7 +371,7 @@ module _ (j : Job) (whole : List Item) (total : List Note) where
       (theScene (theState r (theStatus x 0x20 m l e Interrupt) q (theTransfer Idle d o) (theWire Connected at true rp ls id el))
       (theHost [] false hp v got n) (theTarget talking pa log []))
   unfolding steps
-  pause-on = attend _ (record { asks = rw asked-is; on = rw asked-is (rw (heard-20 j) (now refl)) })
+  pause-on = attend (byPhases j) _ (record { asks = rw asked-is; on = rw asked-is (rw (heard-20 j) (now refl)) })
 
   close-on : {c m x pa el b : ℕ} {l e at o : Bool} {q : Fifo} {rp ls : Noted} {id : Identity} {r : Registers} {v : List ℕ}
       {log got : List Item} {n : List Note}
@@ -404,7 +381,7 @@ module _ (j : Job) (whole : List Item) (total : List Note) where
       (theHost [] false MessageIn v got n) (theTarget talking pa log []))
   unfolding steps
   close-on k =
-      attend _
+      attend (byPhases j) _
       (record {
         asks = rw (asked-is, empty-some k);
         on = rw (asked-is, empty-some k) (rw (empty-some k, front-is k, empty-none (popped k)) pause-on);
@@ -417,8 +394,8 @@ module _ (j : Job) (whole : List Item) (total : List Note) where
       (theScene (theState r (theStatus x c m l e Nothing) q (theTransfer Idle d o) (theWire Disconnected at false rp ls id el))
       (theHost [] false hp v got n) (theTarget away pa log []))
   unfolding steps
-  rest-on unfixed = at-once _ (rw asked-is)
-  rest-on (drained f) = at-once _ (rw (asked-is, f))
+  rest-on unfixed = at-once (byPhases j) _ (rw asked-is)
+  rest-on (drained f) = at-once (byPhases j) _ (rw (asked-is, f))
 
   free-on : {m x pa el : ℕ} {l e at o : Bool} {q : Fifo} {d : Direction} {rp ls : Noted} {id : Identity} {r : Registers} {v : List ℕ}
       {log got : List Item} {n : List Note} {hp : Phase}
@@ -427,7 +404,7 @@ module _ (j : Job) (whole : List Item) (total : List Note) where
       (theScene (theState r (theStatus x 0x85 m l e Interrupt) q (theTransfer Idle d o) (theWire Disconnected at false rp ls id el))
       (theHost [] false hp v got n) (theTarget away pa log []))
   unfolding steps
-  free-on k = attend _ (record { asks = rw asked-is; on = rw asked-is (rw (heard-85 j) (rest-on k)) })
+  free-on k = attend (byPhases j) _ (record { asks = rw asked-is; on = rw asked-is (rw (heard-85 j) (rest-on k)) })
 
   late-on : {m x pa el : ℕ} {l e at o f : Bool} {q : Fifo} {d : Direction} {rp ls : Noted} {id : Identity} {r : Registers} {v : List ℕ}
       {log got : List Item} {n : List Note} {hp : Phase}
@@ -436,7 +413,7 @@ module _ (j : Job) (whole : List Item) (total : List Note) where
       (theScene (theState r (theStatus x 0x85 m l e Interrupt) q (theTransfer Idle d o) (theWire Disconnected at false rp ls id el))
       (theHost (put 0x18 0x03 ∷ []) f hp v got n) (theTarget away pa log []))
   unfolding steps
-  late-on k = attend _ (record { asks = refl; on = free-on k })
+  late-on k = attend (byPhases j) _ (record { asks = refl; on = free-on k })
 
   begins-on : {c : Scene} → Begins j whole total c → B c
   unfolding steps
@@ -445,7 +422,7 @@ module _ (j : Job) (whole : List Item) (total : List Note) where
   begins-on (greets p q g n w) = any-poll (byPhases j) _ _ _ _ _ _ _ _ _ p (greet-held q g n)
   begins-on (waits p q g n w) = any-poll (byPhases j) _ _ _ _ _ _ _ _ _ p (wait-on q g n)
   begins-on (named p q k g v n i w) =
-      any-poll (byPhases j) _ _ _ _ _ _ _ _ _ p (attend-at (bus-coded _ _ _ _ _ _ _ _ _ _ _ _ _ _ _ _ g) (name-on k g n))
+      any-poll (byPhases j) _ _ _ _ _ _ _ _ _ p (attend-at (byPhases j) (bus-coded _ _ _ _ _ _ _ _ _ _ _ _ _ _ _ _ g) (name-on k g n))
   begins-on (S.coded p a q g i w) = code-on p g
 
   sends-on : {c : Scene} → Sends j whole total c → B c
@@ -458,11 +435,11 @@ module _ (j : Job) (whole : List Item) (total : List Note) where
 
   closes-on : {c : Scene} → Closes j whole total c → B c
   unfolding steps
-  closes-on (closes {b = b} p l h v n i w) = at-once _ (rw (lt-ltb b 256 h, phase-round MessageIn, room-is l))
+  closes-on (closes {b = b} p l h v n i w) = at-once (byPhases j) _ (rw (lt-ltb b 256 h, phase-round MessageIn, room-is l))
 
   drains-on : {c : Scene} → Drains j whole total c → B c
   drains-on (drains fifo p e l k g v n i w) =
-      any-poll (byPhases j) _ _ _ _ _ _ _ _ _ p (attend-at (bus-ending _ _ _ _ _ _ _ _ _ _ _ _ _ _ _ _ _ _ g) (drain-on fifo e l k g n))
+      any-poll (byPhases j) _ _ _ _ _ _ _ _ _ p (attend-at (byPhases j) (bus-ending _ _ _ _ _ _ _ _ _ _ _ _ _ _ _ _ _ _ g) (drain-on fifo e l k g n))
 
   ends-on : {c : Scene} → Ends j whole total c → B c
   unfolding steps

@@ -25,22 +25,18 @@ use Rattle.story.specs.Story.{Item, item, items, Job}
 use Rattle.story.specs.Hosts.{Access, Note, Host, countFor, giveFor, serving, byPhases}
 use Rattle.story.specs.Schedule.{Target, Scene, bus, access, passing}
 use Rattle.served.proofs.Opening.{steps}
-use Rattle.served.proofs.Time.{isSelecting, still}
+use Rattle.served.proofs.Time.{isSelecting, still, Spared, spare-on, spare-less, spared-at}
+use Rattle.served.proofs.Going.{Going, one-out, owed-out, sending-can, one-more}
 use Rattle.served.proofs.Parts.{theScene, Aimed, before, aimed, Polled, coded, taken, sent, Polls, look, seen, ready, Plays, over, puts, gets, stored-is}
 use Rattle.served.proofs.Queue.{Lined, none-lined, empty-none, empty-some, room-is, waits-is, front-is, popped, pushed}
 use Rattle.served.proofs.Small.{true-or-false, one-less, bytes-tail, tail-bytes, next-byte, no-bytes, no-code, polls-look, polls-quiet, polls-drained, polls-up, small-address, canSend, some-snoc, waiting-some, can-pop, can-room, can-not, can-now, Quiet, unfixed, drained}
 use Rattle.served.proofs.PhaseFacts.{phase-round, phase-small, same-phase, shown-byte, single-info, heard-11, heard-20, heard-85, heard-named, onto, heard-out, heard-in, heard-read, heard-at, good-byte, noting-on, plays-phase}
-use Rattle.served.proofs.PhaseScenes.{Seg, seg, flat, notesOf, notesAfter, Names, asked, Fits, Good, last, more, After, next, Tale, Heard, Noting, Going, Spared, Ready, Counted, Late, polls, Begins, Sends, Takes, Closes, Drains, Ends, Reach, begins, sending, taking, closing, draining, ends, loads, seeks, greets, waits, named, sends, takes, closes, drains, pauses, paused, calm, gone, rests}
+use Rattle.served.proofs.PhaseScenes.{Seg, seg, flat, notesOf, notesAfter, Names, asked, Fits, Good, last, more, After, next, Tale, Heard, Noting, Ready, Counted, Late, polls, Begins, Sends, Takes, Closes, Drains, Ends, Reach, begins, sending, taking, closing, draining, ends, loads, seeks, greets, waits, named, sends, takes, closes, drains, pauses, paused, calm, gone, rests}
 use Rattle.served.proofs.PhaseScenes as S
 
 module _ (j : Job) (whole : List Item) (total : List Note) where
   abbrev R : Scene → Type 0
   R c = Reach j whole total c
-
-  one-out : {y b : ℕ} {fifo rest give x : List ℕ} → Going j whole total (y ∷ fifo) (b ∷ rest) give x → (y ≡ b) × Going j whole total fifo rest give x
-  one-out s =
-      let e = s .line in
-      (cc, record { line = cc; bytes = s .bytes })
 
   begins-bus : {c : Scene} → Begins j whole total c → R (bus step (byPhases j) c)
   unfolding steps
@@ -146,29 +142,9 @@ module _ (j : Job) (whole : List Item) (total : List Note) where
   bus-step (draining k) = draining-bus k
   bus-step (ends k) = ends-bus k
 
-  spared-at : {t u pa : ℕ} → u ≡ t → Spared j whole total t 0 pa → Spared j whole total u 0 pa
-  spared-at {pa = pa} e s = subst (λ (t : ℕ). Spared j whole total t 0 pa) (sym e) s
-
   pub good-small : {p : Phase} {bs x : List ℕ} {g : List Seg} → Good j whole total (seg p bs x ∷ g) → countFor j p < 16777216
   good-small (last h) = omega arith
   good-small (more f a d g) = f .small
-
-  full-out : {fifo rest x : List ℕ} → Going j whole total fifo rest [] x → ltb (length fifo) (length rest + length x) ≡ false
-  full-out {fifo} {rest} {x} s =
-      le-ltb (length fifo) (length rest + length x) (omega (arith, length-append fifo [], length-append rest x, ap length (s .line)))
-
-  pub owed-out : {fifo rest give x : List ℕ} {z : ℕ} → Going j whole total fifo rest (z ∷ give) x → ltb (length fifo) (length rest + length x) ≡ true
-  owed-out {fifo} {rest} {give} {x} {z} s =
-      lt-ltb (length fifo) (length rest + length x) (omega (arith, length-append fifo (z ∷ give), length-append rest x, ap length (s .line)))
-
-  sending-can : (q : Fifo) {fifo rest x : List ℕ} (give : List ℕ) → Going j whole total fifo rest give x → Lined q fifo
-      → both (ltb (F.waits q) (length rest + length x)) (hasRoom q) ≡ true → canSend fifo give ≡ true
-  unfolding both
-  sending-can q [] s n e = let z : false ≡ true = rw (waits-is n, full-out s) at e in absurd (false≢true z)
-  sending-can q {fifo} (y ∷ give) s n e = can-now fifo y give (rw (waits-is n, owed-out s, room-is n) at e)
-
-  one-more : {fifo rest give x : List ℕ} {z : ℕ} → Going j whole total fifo rest (z ∷ give) x → Going j whole total (fifo ++ (z ∷ [])) rest give x
-  one-more {fifo} {rest} {give} {x} {z} s = record { line = append-assoc fifo (z ∷ []) give ∙ s .line; bytes = bytes-tail z give (s .bytes) }
 
   begins-work : {c : Scene} → Begins j whole total c → R (access step (byPhases j) c)
   unfolding steps serving
@@ -315,12 +291,6 @@ module _ (j : Job) (whole : List Item) (total : List Note) where
   work-step (closing k) = closing-work k
   work-step (draining k) = draining-work k
   work-step (ends k) = ends-work k
-
-  spare-on : {tm el pa : ℕ} (n : ℕ) → Spared j whole total tm el pa → n < pa → Spared j whole total tm el (pa - n)
-  spare-on {tm} {el} {pa} n t h = ⊎-elim (λ e. record { time = inl e }) (λ e. record { time = inr (omega arith) }) (t .time)
-
-  spare-less : {tm : ℕ} (el pa n : ℕ) → el + pa ≤ tm → n < pa → Spared j whole total tm (el + n) (pa - n)
-  spare-less el pa n e h = record { time = inr (omega arith) }
 
   unmoved : (n : ℕ) (s : State) (h : Host) (t : Target) (k : Connection) → s .wire .connection ≡ k → isSelecting k ≡ false → R (theScene s h t)
       → R (passing step (byPhases j) n (theScene s h t))

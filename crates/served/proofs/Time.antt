@@ -1,9 +1,11 @@
--- Time that passes while nobody is being selected changes nothing.
---   still   the scene stays as it is
-use mathlib.Core.Path.{_≡_, refl, sym, _∙_, ap}
+-- Time that passes: while nobody is being selected it changes nothing, and during a selection it stays within the timeout.
+--   still    the scene stays as it is
+--   Spared   time is left: no timeout, or what has passed and the Target's patience are within it
+use mathlib.Core.Path.{_≡_, refl, sym, _∙_, ap, subst}
 use mathlib.Core.Bool.{Bool, true, false, true≢false}
 use mathlib.Core.Logic.{_⊎_, inl, inr, ⊎-elim}
-use Prim.Native.Nat.{ℕ}
+use Prim.Native.Nat.{ℕ, _+_, _-_, _≤_, _<_}
+use native.Mathlib.Omega.{arith}
 use lib.Dec.{ltb}
 use Rattle.chip.specs.Choice.{pick}
 use Rattle.chip.specs.Interrupts.{isEnding}
@@ -52,3 +54,16 @@ still g n s h t k e f = go k e f (time-still n s k e f)
     go Selecting e f z = absurd (true≢false f)
     go Waiting e f z = ap (λ (i : Connection). passingBy step g i n (theScene s h t)) e ∙ ap (λ (x : State). theScene x h t) z
     go Connected e f z = ap (λ (i : Connection). passingBy step g i n (theScene s h t)) e ∙ ap (λ (x : State). theScene x h t) z
+
+pub record Spared (timeout elapsed patience : ℕ) : Type 0 where
+  pub time : (timeout ≡ 0) ⊎ (elapsed + patience ≤ timeout)
+
+-- n units of the patience are used up, noted by the chip or not
+pub spare-on : {t e p : ℕ} (n : ℕ) → Spared t e p → n < p → Spared t e (p - n)
+spare-on {t} {e} {p} n s h = ⊎-elim (λ z. record { time = inl z }) (λ z. record { time = inr (omega arith) }) (s .time)
+
+pub spare-less : {t : ℕ} (e p n : ℕ) → e + p ≤ t → n < p → Spared t (e + n) (p - n)
+spare-less e p n z h = record { time = inr (omega arith) }
+
+pub spared-at : {t u p : ℕ} → u ≡ t → Spared t 0 p → Spared u 0 p
+spared-at {p = p} e s = subst (λ (t : ℕ). Spared t 0 p) (sym e) s

@@ -1,7 +1,7 @@
 -- The scenes that a schedule can reach with the host that serves by one Select-And-Transfer, one constructor for each part of its way.
 --   Set       the registers hold what the command needs
 --   Hands     what the host holds at the start
---   In, Outgo the data on their way: what the host has or still holds, what waits in the FIFO, what is still to cross
+--   Coming    data on their way in: what the host has, what waits in the FIFO, what is still to cross
 --   Left      what is left of the data once the status has crossed
 --   Reach     the scenes
 use mathlib.Core.Path.{_≡_}
@@ -35,6 +35,8 @@ use Rattle.story.specs.Hosts.{Access, put, Note, note}
 use Rattle.story.specs.Schedule.{calling, talking, away, Scene}
 use Rattle.story.specs.Demand.{incomingData, countBytes}
 use Rattle.served.proofs.Parts.{theRegisters, theStatus, theTransfer, theWire, theState, theHost, theTarget, theScene, Aimed, Polls, Plays}
+use Rattle.served.proofs.Time.{Spared}
+use Rattle.served.proofs.Going.{Going}
 use Rattle.served.proofs.Queue.{Lined}
 use Rattle.served.proofs.Small.{Quiet, isSome, canSend}
 
@@ -62,10 +64,6 @@ module _ (j : Job) where
     pub timeout : r .timeout ≡ j .timeout
     pub none : n ≡ []
 
-  -- time is left: no timeout, or what has passed and the Target's patience are within it
-  pub record Spared (timeout elapsed patience : ℕ) : Type 0 where
-    pub time : (timeout ≡ 0) ⊎ (elapsed + patience ≤ timeout)
-
   pub data Hands : Way → List ℕ → List ℕ → Type 0 where
     reads : {d : List ℕ} → j .way ≡ inward → d ≡ j .moved → Hands inward d []
     writes : {d v : List ℕ} → j .way ≡ outward → d ≡ j .moved → v ≡ d ++ j .beyond → Hands outward d v
@@ -78,10 +76,6 @@ module _ (j : Job) where
     pub read : got ≡ items DataIn had
     pub all : had ++ (fifo ++ rest) ≡ j .moved
     pub bytes : Bytes rest
-
-  pub record Going (fifo rest give : List ℕ) : Type 0 where
-    pub line : fifo ++ give ≡ rest ++ j .beyond
-    pub bytes : Bytes give
 
   pub data Left : Bool → Direction → Fifo → List Item → Phase → Type 0 where
     some : {q : Fifo} {got : List Item} (fifo : List ℕ) → j .way ≡ inward → Lined q fifo → Coming got fifo [] → Left (isSome fifo) In q got DataIn
@@ -169,7 +163,7 @@ module _ (j : Job) where
         → Set cd lu sr
         → Polls false false (canSend fifo give) td f x
         → Lined q fifo
-        → Going fifo rest give
+        → Going fifo rest give (j .beyond)
         → Expects ph (sizeOf (getD cd 0 0)) (length rest + length (j .beyond))
         → Tale log (items DataOut rest ++ close j)
         → Reach

@@ -42,31 +42,15 @@ use Rattle.served.proofs.Parts.{theRegisters, theStatus, theTransfer, t
 use Rattle.served.proofs.Queue.{Lined, none-lined, empty-none, empty-some, room-is, waits-is, front-is, fits, popped, pushed}
 use Rattle.served.proofs.Small.{true-or-false, length-snoc, asked-is, Quiet, unfixed, drained}
 use Rattle.served.proofs.Stages.{stage-identify, stage-status}
-use Rattle.served.proofs.Accesses.{put-done, get-done, wait-at}
+use Rattle.served.proofs.Accesses.{put-done, get-done, wait-at, at-once, Attends, attend, bus-idle, none-left}
+use Rattle.served.proofs.Going.{Going, owed-out}
 use Rattle.served.proofs.Polling.{any-poll}
-use Rattle.served.proofs.TransferScenes.{CommandPhase, Expects, body, late, Set, Ready, Hands, reads, writes, Coming, Going, Left, some, none, Finals, finalNotes, Closes, reading, resting, Reach, loads, seeks, greets, commands, comes, goes, statuses, ends, told, calm, gone, rests}
-use Rattle.served.proofs.TransferSteps.{bus-step, pass-step, work-step, next-is, full-is, has-size, moved-byte, owed-out, final-plays}
+use Rattle.served.proofs.TransferScenes.{CommandPhase, Expects, body, late, Set, Ready, Hands, reads, writes, Coming, Left, some, none, Finals, finalNotes, Closes, reading, resting, Reach, loads, seeks, greets, commands, comes, goes, statuses, ends, told, calm, gone, rests}
+use Rattle.served.proofs.TransferSteps.{bus-step, pass-step, work-step, next-is, full-is, has-size, moved-byte, final-plays}
 
 module _ (j : Job) (pr : Proper j) where
   abbrev B : Scene → Type 0
   B c = Brought step (byTransfer j) c
-
-  at-once : (c : Scene) → onward step (byTransfer j) (c .target .place) c ≡ true → B c
-  at-once c e = now e
-
-  wait : (c : Scene) → isNone (due step (byTransfer j) (bus step (byTransfer j) c)) ≡ false
-      → B (attended step (byTransfer j) (bus step (byTransfer j) c)) → B c
-  wait c e b = later e b
-
-  none-left : {x : ℕ} (d e : List ℕ) → [] ≡ (x ∷ d) ++ e → ⊥
-  none-left d e q = let z : _≡_ {A = ℕ} 0 1 = cc in omega arith
-
-  -- before the selection the Target calls in vain
-  bus-idle : (r : Registers) (st : Status) (q : Fifo) (tr : Transfer) (at ak : Bool) (rp ls : Noted) (id : Identity) (el : ℕ) (h : Host) (pa : ℕ) (t : List Item)
-      → bus step (byTransfer j) (theScene (theState r st q tr (theWire Disconnected at ak rp ls id el)) h (theTarget calling pa [] t))
-      ≡ theScene (theState r st q tr (theWire Disconnected at ak rp ls id el)) h (theTarget calling pa [] t)
-  unfolding steps
-  bus-idle r st q tr at ak rp ls id el h pa t = refl
 
   -- the host loads the registers, and writes the command
   command-on : {c m x pa el : ℕ} {l e at o f : Bool} {q : Fifo} {d : Direction} {rp ls : Noted} {id : Identity} {r : Registers}
@@ -76,7 +60,8 @@ module _ (j : Job) (pr : Proper j) where
       (theScene (theState r (theStatus x c m l e Nothing) q (theTransfer Idle d o) (theWire Disconnected at false rp ls id el))
       (theHost (put 0x18 0x08 ∷ []) f hp v [] n) (theTarget calling pa [] t))
   unfolding steps
-  command-on {r = r} g = wait _ refl (rw (lt-ltb 0 (sizeOf (getD (r .cdb) 0 0)) (has-size j pr (g .set))) (now refl))
+  command-on {r = r} g =
+      attend (byTransfer j) _ (record { asks = refl; on = rw (lt-ltb 0 (sizeOf (getD (r .cdb) 0 0)) (has-size j pr (g .set))) (now refl) })
 
   load-on : {c m x pa el : ℕ} {l e at o f : Bool} {q : Fifo} {d : Direction} {rp ls : Noted} {id : Identity} {td : List Access} {r : Registers}
       {v : List ℕ} {n : List Note} {hp : Phase} {t : List Item}
@@ -87,27 +72,19 @@ module _ (j : Job) (pr : Proper j) where
   unfolding scenes
   load-on (over g) = command-on g
   load-on {c = c} {m = m} {x = x} {l = l} {e = e} {o = o} {f = f} {q = q} {d = d} {td = td} {r = r} {v = v} {n = n} {hp = hp} (puts {a = a} {b = b} {l = k} u h p) =
-      wait-at (byTransfer j) _ _ (bus-idle _ _ _ _ _ _ _ _ _ _ _ _ _) refl
+      wait-at (byTransfer j) _ _ (bus-idle (byTransfer j) _ _ _ _ _ _ _ _ _ _ _ _ _) refl
       (put-done r c m l e Nothing q d o _ refl (byTransfer j) hp v [] n _ x f td k a b u h) (load-on p)
   load-on {c = c} {m = m} {x = x} {l = l} {e = e} {o = o} {f = f} {q = q} {d = d} {td = td} {r = r} {v = v} {n = n} {hp = hp} (gets {a = a} {l = k} u p) =
-      wait-at (byTransfer j) _ _ (bus-idle _ _ _ _ _ _ _ _ _ _ _ _ _) refl
+      wait-at (byTransfer j) _ _ (bus-idle (byTransfer j) _ _ _ _ _ _ _ _ _ _ _ _ _) refl
       (get-done r c m l e Nothing q d o _ refl (byTransfer j) hp v [] n _ x f td k a u) (load-on p)
-
-  -- an access is due, and with it made the Target is brought on
-  record Attends (c : Scene) : Type 0 where
-    asks : isNone (due step (byTransfer j) c) ≡ false
-    on : B (attended step (byTransfer j) c)
-
-  attend : (c : Scene) → Attends (bus step (byTransfer j) c) → B c
-  attend c a = later (a .asks) (a .on)
 
   -- the first byte goes into the FIFO, and is taken from there
   give-on : {c m x pa el ow ct tm lu sy ds sr ph : ℕ} {l e at : Bool} {rp ls : Noted} {id : Identity} {cd : List ℕ} {log t : List Item} {q : Fifo}
       (y z : ℕ) (rest give : List ℕ)
       → Lined q []
       → stageOf true ph (sizeOf (getD cd 0 0)) ≡ Body
-      → Going j [] (z ∷ rest) (y ∷ give)
-      → Attends
+      → Going [] (z ∷ rest) (y ∷ give) (j .beyond)
+      → Attends (byTransfer j)
       (theScene
       (theState (theRegisters ow ct tm cd lu ph sy (length (z ∷ rest) + length (j .beyond)) ds sr) (theStatus x c m l e Nothing) q
       (theTransfer TransferWithAtn Out false) (theWire Connected at false rp ls id el)) (theHost [] false DataOut (y ∷ give) [] [])
@@ -115,11 +92,11 @@ module _ (j : Job) (pr : Proper j) where
   unfolding steps phaseOf
   give-on y z rest give n s i =
       record {
-        asks = rw (asked-is, waits-is n, owed-out j pr [] (z ∷ rest) y give i, room-is n);
+        asks = rw (asked-is, waits-is n, owed-out i, room-is n);
         on =
-            rw (asked-is, waits-is n, owed-out j pr [] (z ∷ rest) y give i, room-is n)
-            (rw (lt-ltb y 256 (i .bytes 0), waits-is n, owed-out j pr [] (z ∷ rest) y give i, room-is n)
-            (at-once _ (rw (s, ne-eqb (suc (length rest) + length (j .beyond)) 0 (omega arith), empty-some (pushed y n (omega arith))))));
+            rw (asked-is, waits-is n, owed-out i, room-is n)
+            (rw (lt-ltb y 256 (i .bytes 0), waits-is n, owed-out i, room-is n)
+            (at-once (byTransfer j) _ (rw (s, ne-eqb (suc (length rest) + length (j .beyond)) 0 (omega arith), empty-some (pushed y n (omega arith))))));
       }
 
   -- the command is sent
@@ -136,14 +113,14 @@ module _ (j : Job) (pr : Proper j) where
       (theTransfer TransferWithAtn Unfixed false) (theWire Connected at false rp ls id el)) (theHost [] false (wayPhase w) v [] [])
       (theTarget talking pa log (items CommandOut rest ++ (items (wayPhase w) d ++ close j))))
   unfolding steps phaseOf
-  commands-on {ph = ph} had (x ∷ rest) d s h b q e = at-once _ (rw (next-is j pr ph had x rest s q e))
-  commands-on {ph = ph} had [] [] s h b q e = at-once _ (rw (full-is j pr ph had s q e, lt-ltb (j .status) 256 (pr .status-byte)))
+  commands-on {ph = ph} had (x ∷ rest) d s h b q e = at-once (byTransfer j) _ (rw (next-is j pr ph had x rest s q e))
+  commands-on {ph = ph} had [] [] s h b q e = at-once (byTransfer j) _ (rw (full-is j pr ph had s q e, lt-ltb (j .status) 256 (pr .status-byte)))
   commands-on {ph = ph} had [] (x ∷ d) s (reads w f) b q e =
-      at-once _
+      at-once (byTransfer j) _
       (rw (full-is j pr ph had s q e, lt-ltb x 256 (moved-byte j pr f), ne-eqb (suc (length d) + length (j .beyond)) 0 (omega arith), room-is none-lined))
   commands-on {ph = ph} had [] (x ∷ d) s (writes {v = []} w f g) b q e = absurd (none-left d (j .beyond) g)
   commands-on {ph = ph} had [] (x ∷ d) s (writes {v = y ∷ v} w f g) b q e =
-      attend _
+      attend (byTransfer j) _
       (rw (full-is j pr ph had s q e, ne-eqb (suc (length d) + length (j .beyond)) 0 (omega arith))
       (give-on y x d v none-lined (full-is j pr ph had s q e) (record { line = g; bytes = b })))
 
@@ -153,7 +130,7 @@ module _ (j : Job) (pr : Proper j) where
       → Lined q (y ∷ z ∷ fifo)
       → stageOf true ph (sizeOf (getD cd 0 0)) ≡ Body
       → b < 256
-      → Attends
+      → Attends (byTransfer j)
       (theScene
       (theState (theRegisters ow ct tm cd lu ph sy (length (b ∷ rest) + length (j .beyond)) ds sr) (theStatus x c m l e Nothing) q
       (theTransfer TransferWithAtn In false) (theWire Connected at false rp ls id el)) (theHost [] false DataIn [] got [])
@@ -165,7 +142,7 @@ module _ (j : Job) (pr : Proper j) where
         on =
             rw (asked-is, empty-some n)
             (rw (empty-some n, front-is n, empty-some (popped n))
-            (at-once _
+            (at-once (byTransfer j) _
             (rw (
               s,
               lt-ltb b 256 h,
@@ -187,18 +164,18 @@ module _ (j : Job) (pr : Proper j) where
       (theTransfer TransferWithAtn In false) (theWire Connected at false rp ls id el)) (theHost [] false DataIn [] got [])
       (theTarget talking pa log (items DataIn rest ++ close j)))
   unfolding steps phaseOf
-  come-on fifo [] n i (body s) = at-once _ (rw (s, lt-ltb (j .status) 256 (pr .status-byte)))
-  come-on fifo [] n i (late s z) = at-once _ (rw (s, lt-ltb (j .status) 256 (pr .status-byte)))
+  come-on fifo [] n i (body s) = at-once (byTransfer j) _ (rw (s, lt-ltb (j .status) 256 (pr .status-byte)))
+  come-on fifo [] n i (late s z) = at-once (byTransfer j) _ (rw (s, lt-ltb (j .status) 256 (pr .status-byte)))
   come-on fifo (x ∷ rest) n i (late s z) = absurd (omega arith)
   come-on [] (x ∷ rest) n i (body s) =
-      at-once _ (rw (s, lt-ltb x 256 (i .bytes 0), ne-eqb (suc (length rest) + length (j .beyond)) 0 (omega arith), room-is n))
+      at-once (byTransfer j) _ (rw (s, lt-ltb x 256 (i .bytes 0), ne-eqb (suc (length rest) + length (j .beyond)) 0 (omega arith), room-is n))
   come-on (y ∷ []) (x ∷ rest) n i (body s) =
-      at-once _ (rw (s, lt-ltb x 256 (i .bytes 0), ne-eqb (suc (length rest) + length (j .beyond)) 0 (omega arith), room-is n))
+      at-once (byTransfer j) _ (rw (s, lt-ltb x 256 (i .bytes 0), ne-eqb (suc (length rest) + length (j .beyond)) 0 (omega arith), room-is n))
   come-on (y ∷ z ∷ fifo) (x ∷ rest) n i (body s) =
       ⊎-elim
-      (λ r. at-once _ (rw (s, lt-ltb x 256 (i .bytes 0), ne-eqb (suc (length rest) + length (j .beyond)) 0 (omega arith), room-is n, r)))
+      (λ r. at-once (byTransfer j) _ (rw (s, lt-ltb x 256 (i .bytes 0), ne-eqb (suc (length rest) + length (j .beyond)) 0 (omega arith), room-is n, r)))
       (λ r.
-      attend _
+      attend (byTransfer j) _
       (rw (s, lt-ltb x 256 (i .bytes 0), ne-eqb (suc (length rest) + length (j .beyond)) 0 (omega arith), room-is n, r)
       (take-on y z fifo x rest n s (i .bytes 0))))
       (true-or-false (ltb (length (y ∷ z ∷ fifo)) 12))
@@ -207,7 +184,7 @@ module _ (j : Job) (pr : Proper j) where
   go-on : {c m x pa el ow ct tm lu sy ds sr ph : ℕ} {l e at : Bool} {rp ls : Noted} {id : Identity} {cd : List ℕ} {log : List Item} {q : Fifo}
       (fifo rest give : List ℕ)
       → Lined q fifo
-      → Going j fifo rest give
+      → Going fifo rest give (j .beyond)
       → Expects ph (sizeOf (getD cd 0 0)) (length rest + length (j .beyond))
       → B
       (theScene
@@ -215,14 +192,14 @@ module _ (j : Job) (pr : Proper j) where
       (theTransfer TransferWithAtn Out false) (theWire Connected at false rp ls id el)) (theHost [] false DataOut give [] [])
       (theTarget talking pa log (items DataOut rest ++ close j)))
   unfolding steps phaseOf
-  go-on fifo [] give n i (body s) = at-once _ (rw (s, lt-ltb (j .status) 256 (pr .status-byte)))
-  go-on fifo [] give n i (late s z) = at-once _ (rw (s, lt-ltb (j .status) 256 (pr .status-byte)))
+  go-on fifo [] give n i (body s) = at-once (byTransfer j) _ (rw (s, lt-ltb (j .status) 256 (pr .status-byte)))
+  go-on fifo [] give n i (late s z) = at-once (byTransfer j) _ (rw (s, lt-ltb (j .status) 256 (pr .status-byte)))
   go-on fifo (x ∷ rest) give n i (late s z) = absurd (omega arith)
   go-on (y ∷ fifo) (x ∷ rest) give n i (body s) =
-      at-once _ (rw (s, ne-eqb (suc (length rest) + length (j .beyond)) 0 (omega arith), empty-some n))
+      at-once (byTransfer j) _ (rw (s, ne-eqb (suc (length rest) + length (j .beyond)) 0 (omega arith), empty-some n))
   go-on [] (x ∷ rest) [] n i (body s) = absurd (none-left rest (j .beyond) (i .line))
   go-on [] (x ∷ rest) (y ∷ give) n i (body s) =
-      attend _
+      attend (byTransfer j) _
       (rw (s, ne-eqb (suc (length rest) + length (j .beyond)) 0 (omega arith), empty-none n) (give-on y x rest give n s i))
 
   -- 16h waits until the data are read out, and the bus until 16h is read
@@ -233,7 +210,7 @@ module _ (j : Job) (pr : Proper j) where
       (theState (theRegisters ow ct tm cd (j .status) 0x60 sy n ds sr) (theStatus x 0x16 m l e Interrupt) q (theTransfer Idle d o)
       (theWire Connected at false rp ls id el)) (theHost [] false hp v got []) (theTarget talking pa log []))
   unfolding steps
-  tell-on = attend _ (record { asks = rw asked-is; on = rw asked-is (now refl) })
+  tell-on = attend (byTransfer j) _ (record { asks = rw asked-is; on = rw asked-is (now refl) })
 
   end-on : {c m x pa el ow ct tm sy ds sr n b : ℕ} {l e at : Bool} {rp ls : Noted} {id : Identity} {cd v : List ℕ} {log got : List Item} {q : Fifo}
       (fifo : List ℕ)
@@ -244,13 +221,13 @@ module _ (j : Job) (pr : Proper j) where
       (theWire Connected at false rp ls id el)) (theHost [] false DataIn v got []) (theTarget talking pa log []))
   unfolding steps
   end-on [] n =
-      attend _
+      attend (byTransfer j) _
       (record {
         asks = rw (asked-is, empty-some n);
         on = rw (asked-is, empty-some n) (rw (empty-some n, front-is n, empty-none (popped n)) tell-on);
       })
   end-on (y ∷ fifo) n =
-      attend _
+      attend (byTransfer j) _
       (record {
         asks = rw (asked-is, empty-some n);
         on = rw (asked-is, empty-some n) (rw (empty-some n, front-is n, empty-some (popped n)) (end-on fifo (popped n)));
@@ -264,8 +241,8 @@ module _ (j : Job) (pr : Proper j) where
       (theScene (theState r (theStatus x c m l e Nothing) q (theTransfer Idle d o) (theWire Disconnected at false rp ls id el))
       (theHost [] false hp v got n) (theTarget away pa log []))
   unfolding steps
-  rest-on unfixed = at-once _ (rw asked-is)
-  rest-on (drained f) = at-once _ (rw (asked-is, f))
+  rest-on unfixed = at-once (byTransfer j) _ (rw asked-is)
+  rest-on (drained f) = at-once (byTransfer j) _ (rw (asked-is, f))
 
   free-on : {m x pa el : ℕ} {l e at o : Bool} {rp ls : Noted} {id : Identity} {v : List ℕ} {hp : Phase} {log got : List Item}
       {q : Fifo} {d : Direction} {r : Registers} {n : List Note}
@@ -274,7 +251,7 @@ module _ (j : Job) (pr : Proper j) where
       (theScene (theState r (theStatus x 0x85 m l e Interrupt) q (theTransfer Idle d o) (theWire Disconnected at false rp ls id el))
       (theHost [] false hp v got n) (theTarget away pa log []))
   unfolding steps
-  free-on k = attend _ (record { asks = rw asked-is; on = rw asked-is (rest-on k) })
+  free-on k = attend (byTransfer j) _ (record { asks = rw asked-is; on = rw asked-is (rest-on k) })
 
   read-on : {m x pa el : ℕ} {l e at o f : Bool} {rp ls : Noted} {id : Identity} {v : List ℕ} {hp : Phase} {log got : List Item}
       {q : Fifo} {d : Direction} {r : Registers} {n : List Note} {td : List Access}
@@ -295,12 +272,12 @@ module _ (j : Job) (pr : Proper j) where
   unfolding steps phaseOf
   brought (loads p a h t b) = load-on p
   brought (seeks s p h t b) = now refl
-  brought (greets s p h b) = at-once _ (rw (stage-identify _))
+  brought (greets s p h b) = at-once (byTransfer j) _ (rw (stage-identify _))
   brought (commands had rest d s p h b q e t) = any-poll (byTransfer j) _ _ _ _ _ _ _ _ _ p (commands-on had rest d s h b q e)
   brought (comes fifo rest w s p n i x t) = any-poll (byTransfer j) _ _ _ _ _ _ _ _ _ p (come-on fifo rest n i x)
   brought (goes fifo rest give w s p n i x t) = any-poll (byTransfer j) _ _ _ _ _ _ _ _ _ p (go-on fifo rest give n i x)
-  brought (statuses p (some fifo w n i) b z t) = at-once _ (rw (stage-status _))
-  brought (statuses p (none e) b z t) = at-once _ (rw (stage-status _))
+  brought (statuses p (some fifo w n i) b z t) = at-once (byTransfer j) _ (rw (stage-status _))
+  brought (statuses p (none e) b z t) = at-once (byTransfer j) _ (rw (stage-status _))
   brought (ends fifo p w n i b z) = any-poll (byTransfer j) _ _ _ _ _ _ _ _ _ p (end-on fifo n)
   brought (told p q e b z) = any-poll (byTransfer j) _ _ _ _ _ _ _ _ _ p tell-on
   brought (calm k unfixed e b) = now refl

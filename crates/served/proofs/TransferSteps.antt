@@ -30,12 +30,13 @@ use Rattle.story.specs.Hosts.{Access, get, Note, note, Host, countGets, byTrans
 use Rattle.story.specs.Schedule.{Target, Scene, bus, access, passing}
 use Rattle.story.specs.Demand.{incomingData}
 use Rattle.served.proofs.Opening.{steps}
-use Rattle.served.proofs.Time.{isSelecting, still}
+use Rattle.served.proofs.Time.{isSelecting, still, Spared, spare-on, spare-less, spared-at}
+use Rattle.served.proofs.Going.{Going, one-out, owed-out, sending-can, one-more}
 use Rattle.served.proofs.Parts.{theScene, Aimed, before, aimed, Polled, coded, taken, sent, Polls, look, seen, ready, Plays, over, puts, gets, stored-is}
 use Rattle.served.proofs.Queue.{Lined, none-lined, empty-none, empty-some, room-is, waits-is, front-is, fits, popped, pushed}
 use Rattle.served.proofs.Small.{true-or-false, length-snoc, items-snoc, one-less, bytes-tail, tail-bytes, next-byte, no-bytes, no-code, polls-look, polls-quiet, polls-drained, polls-up, small-address, canSend, some-snoc, waiting-some, can-pop, can-room, can-not, can-now, Quiet, unfixed, drained}
 use Rattle.served.proofs.Stages.{stage-identify, stage-status, stage-data, stage-next, stage-full, size-small, expects-after}
-use Rattle.served.proofs.TransferScenes.{CommandPhase, first, later, Expects, body, late, Set, Ready, Spared, Hands, reads, writes, Tale, Coming, Going, Left, some, none, Finals, finalNotes, Closes, reading, resting, Reach, loads, seeks, greets, commands, comes, goes, statuses, ends, told, calm, gone, rests}
+use Rattle.served.proofs.TransferScenes.{CommandPhase, first, later, Expects, body, late, Set, Ready, Hands, reads, writes, Tale, Coming, Left, some, none, Finals, finalNotes, Closes, reading, resting, Reach, loads, seeks, greets, commands, comes, goes, statuses, ends, told, calm, gone, rests}
 
 command-at : (had : List ℕ) (b : ℕ) (rest command behind cd : List ℕ) → had ++ (b ∷ rest) ≡ command → cd ≡ command ++ behind
     → getD cd (length had) 0 ≡ b
@@ -95,14 +96,6 @@ module _ (j : Job) (pr : Proper j) where
         all = ap (λ (l : List ℕ). i .had ++ l) (append-assoc fifo (x ∷ []) rest) ∙ i .all;
         bytes = bytes-tail x rest (i .bytes);
       }
-
-  same-byte : (y : ℕ) (fifo : List ℕ) (x : ℕ) (rest give : List ℕ) → Going j (y ∷ fifo) (x ∷ rest) give → y ≡ x
-  same-byte y fifo x rest give g = let e = g .line in cc
-
-  one-out : (y : ℕ) (fifo : List ℕ) (x : ℕ) (rest give : List ℕ) → Going j (y ∷ fifo) (x ∷ rest) give → Going j fifo rest give
-  one-out y fifo x rest give g =
-      let e = g .line in
-      record { line = cc; bytes = g .bytes }
 
   all-read : {got : List Item} → j .way ≡ inward → Coming j got [] [] → got ≡ items DataIn (incomingData (j .way) (j .moved))
   all-read w i = i .read ∙ (rw w (ap (items DataIn) (sym (append-nil (i .had)) ∙ i .all)))
@@ -178,10 +171,10 @@ module _ (j : Job) (pr : Proper j) where
         ne-eqb (suc (length rest) + length (j .beyond)) 0 (omega arith),
         empty-some n,
         front-is n,
-        same-byte y fifo x rest give i,
+        one-out i .0,
         one-less (length rest) (length (j .beyond)),
       )
-      (goes fifo rest give w s (polls-up (λ k. k) (can-pop y fifo give) p) (popped n) (one-out y fifo x rest give i) (expects-after (length rest) _ ph _ e) (onto t))
+      (goes fifo rest give w s (polls-up (λ k. k) (can-pop y fifo give) p) (popped n) (one-out i .1) (expects-after (length rest) _ ph _ e) (onto t))
   bus-step (statuses p (some [] w n i) b z t) =
       rw (stage-status _, empty-none n, t .whole) (told (no-code p) (drained (empty-none n)) (all-read w i) b z)
   bus-step (statuses p (some (x ∷ fifo) w n i) b z t) =
@@ -193,12 +186,6 @@ module _ (j : Job) (pr : Proper j) where
   bus-step (calm k (drained f) e b) = gone (still-closes k) (drained f) e b
   bus-step (gone k q e b) = gone k q e b
   bus-step (rests p n q e b) = rests p n q e b
-
-  spare-on : {tm el pa : ℕ} (n : ℕ) → Spared j tm el pa → n < pa → Spared j tm el (pa - n)
-  spare-on {tm} {el} {pa} n t h = ⊎-elim (λ e. record { time = inl e }) (λ e. record { time = inr (omega arith) }) (t .time)
-
-  spare-less : {tm : ℕ} (el pa n : ℕ) → el + pa ≤ tm → n < pa → Spared j tm (el + n) (pa - n)
-  spare-less el pa n e h = record { time = inr (omega arith) }
 
   unmoved : (n : ℕ) (s : State) (h : Host) (t : Target) (k : Connection) → s .wire .connection ≡ k → isSelecting k ≡ false → Reach j (theScene s h t)
       → Reach j (passing step (byTransfer j) n (theScene s h t))
@@ -245,37 +232,11 @@ module _ (j : Job) (pr : Proper j) where
         bytes = i .bytes;
       }
 
-  one-more : (fifo rest : List ℕ) (y : ℕ) (give : List ℕ) → Going j fifo rest (y ∷ give) → Going j (fifo ++ (y ∷ [])) rest give
-  one-more fifo rest y give g = record { line = append-assoc fifo (y ∷ []) give ∙ g .line; bytes = bytes-tail y give (g .bytes) }
-
-  spared-at : {t u pa : ℕ} → u ≡ t → Spared j t 0 pa → Spared j u 0 pa
-  spared-at {pa = pa} e s = subst (λ (t : ℕ). Spared j t 0 pa) (sym e) s
-
   pub has-size : {cd : List ℕ} {lu src : ℕ} → Set j cd lu src → 0 < sizeOf (getD cd 0 0)
   has-size s = omega (arith, size-is s, pr .command-some)
 
   one-taken : {got : List Item} (x : ℕ) (fifo : List ℕ) → Coming j got (x ∷ fifo) [] → Coming j (got ++ (item DataIn x ∷ [])) fifo []
   one-taken x fifo i = one-read x fifo [] i
-
-  -- going out, as many bytes wait or are in the host's hands as are left to cross
-  full-out : (fifo rest : List ℕ) → Going j fifo rest [] → ltb (length fifo) (length rest + length (j .beyond)) ≡ false
-  full-out fifo rest g =
-      le-ltb (length fifo) (length rest + length (j .beyond))
-      (omega (arith, length-append fifo [], length-append rest (j .beyond), ap length (g .line)))
-
-  pub owed-out : (fifo rest : List ℕ) (y : ℕ) (give : List ℕ) → Going j fifo rest (y ∷ give)
-      → ltb (length fifo) (length rest + length (j .beyond)) ≡ true
-  owed-out fifo rest y give g =
-      lt-ltb (length fifo) (length rest + length (j .beyond))
-      (omega (arith, length-append fifo (y ∷ give), length-append rest (j .beyond), ap length (g .line)))
-
-  sending-can : (q : Fifo) (fifo rest give : List ℕ) → Lined q fifo → Going j fifo rest give
-      → both (ltb (waits q) (length rest + length (j .beyond))) (hasRoom q) ≡ true → canSend fifo give ≡ true
-  unfolding both
-  sending-can q fifo rest [] n g e =
-      let z : false ≡ true = rw (waits-is n, full-out fifo rest g) at e in
-      absurd (false≢true z)
-  sending-can q fifo rest (y ∷ give) n g e = can-now fifo y give (rw (waits-is n, owed-out fifo rest y give g, room-is n) at e)
 
   pub closes-on : {i : Bool} {l : List Access} {a : ℕ} {r : Registers} {n : List Note} → Plays [] (Finals j) l r n → Closes j i l false a r n
   closes-on (over g) = resting look g
@@ -331,14 +292,14 @@ module _ (j : Job) (pr : Proper j) where
       rw (empty-some n, front-is n, empty-some (popped n)) (comes (z ∷ fifo) rest w s look (popped n) (one-read y (z ∷ fifo) rest i) x t)
   work-step (comes fifo rest w s (ready (sent k)) n i x t) = absurd (false≢true k)
   work-step (goes fifo rest give w s look n i x t) =
-      goes fifo rest give w s (polls-look _ _ _ _ _ _ _ (λ u c. absurd (false≢true c)) (λ u c. sending-can _ fifo rest give n i u)) n i x t
+      goes fifo rest give w s (polls-look _ _ _ _ _ _ _ (λ u c. absurd (false≢true c)) (λ u c. sending-can _ give i n u)) n i x t
   work-step (goes fifo rest give w s (seen k) n i x t) = rw (small-address k) (goes fifo rest give w s (ready k) n i x t)
   work-step (goes fifo rest give w s (ready (taken k)) n i x t) = absurd (false≢true k)
   work-step (goes fifo rest [] w s (ready (sent k)) n i x t) = can-not fifo k
   work-step (goes fifo rest (y ∷ give) w s (ready (sent k)) n i x t) =
-      rw (lt-ltb y 256 (i .bytes 0), waits-is n, owed-out fifo rest y give i, room-is n)
+      rw (lt-ltb y 256 (i .bytes 0), waits-is n, owed-out i, room-is n)
       (rw (lt-ltb (length fifo) 12 (can-room fifo (y ∷ give) k))
-      (goes (fifo ++ (y ∷ [])) rest give w s look (pushed y n (can-room fifo (y ∷ give) k)) (one-more fifo rest y give i) x t))
+      (goes (fifo ++ (y ∷ [])) rest give w s look (pushed y n (can-room fifo (y ∷ give) k)) (one-more i) x t))
   work-step (statuses look (some fifo w n i) b z t) =
       statuses (polls-look _ _ _ _ _ _ _ (λ u c. waiting-some fifo n u) (λ u c. refl)) (some fifo w n i) b z t
   work-step (statuses look (none e) b z t) = statuses (polls-quiet _ _ _ _ _ _) (none e) b z t
