@@ -25,7 +25,7 @@ use Rattle.chip.specs.declared.Direction.the-variants.{Unfixed, In, Out}
 use Rattle.chip.specs.declared.Pending.{Pending}
 use Rattle.chip.specs.declared.Pending.the-variants.{Nothing, Interrupt, Ending, ReadOut}
 use Rattle.blocks.specs.Blocks.{Run, drained, takes, filled, readBy, writtenBy}
-use Rattle.blocks.proofs.Cases.{by-test}
+use Rattle.chip.proofs.Cases.{by-test}
 use Rattle.blocks.proofs.Runs.{drained-none, drained-more, filled-none, filled-more}
 
 -- ---- reads

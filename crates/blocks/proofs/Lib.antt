@@ -1,4 +1,3 @@
-pub mod Cases
 pub mod Runs
 pub mod Going
 pub mod Blocks

@@ -17,7 +17,7 @@ use Rattle.chip.specs.Choice.{pick, both}
 use Rattle.chip.specs.Fifo.{isEmpty, hasRoom, waits, front, pop, push}
 use Rattle.chip.specs.declared.Fifo.{Fifo}
 use Rattle.blocks.specs.Blocks.{more, rest, drained, takes, filled}
-use Rattle.blocks.proofs.Cases.{by-test}
+use Rattle.chip.proofs.Cases.{by-test}
 
 pub drained-none : (l : List ℕ) (q : Fifo) → isEmpty q ≡ true → drained l q ≡ rest l q
 unfolding drained pick

@@ -7,6 +7,7 @@ use mathlib.Core.List.{List, []}
 use Prim.Native.Nat.{ℕ, _*_}
 use lib.Dec.{eqb, ltb}
 use lib.ListN.{length}
+use Rattle.chip.proofs.Cases.{both-first}
 use Rattle.chip.specs.Choice.{pick, both}
 use Rattle.chip.specs.Calls.{Call, Outcome, isGood, isSet, carried, plain, moved, block}
 use Rattle.chip.specs.Registers.{Moved, blockRead, blockWritten}
@@ -37,11 +38,6 @@ unfolding readOf pick
 state-read l r e h =
     let i : isImage l ≡ true = image-read l r e h in
     ap (λ (x : Reading). x .state) e ∙ rw i
-
-both-first : (a b : Bool) → both a b ≡ true → a ≡ true
-unfolding both
-both-first true b h = refl
-both-first false b h = h
 
 pub long-enough : (l : List ℕ) → isImage l ≡ true → eqb (length l) 53 ≡ true
 unfolding isImage

@@ -14,7 +14,7 @@ use Rattle.chip.specs.declared.Connection.{Connection}
 use Rattle.chip.specs.declared.Connection.the-variants.{Connected}
 use Rattle.chip.specs.declared.Direction.{Direction}
 use Rattle.chip.specs.declared.Noted.{Noted}
-use Rattle.refusals.proofs.Cases.{by-pick, by-case}
+use Rattle.chip.proofs.Cases.{by-pick, by-case}
 use Rattle.reached.specs.Sound.{apart, joined, Way, Drained, none, Shape, idle, selects, waits, transfers, informs, ending, readOut, Transfers, with-atn, without-atn, transfer, info, Selects, six, seven, eight, nine}
 use Rattle.reached.proofs.Fifos.{Whole}
 use Rattle.reached.proofs.Shapes.{Numbered, Good, so, Fine, being, empty-way, drained-way, way-drained, raised, ended, unless-int}

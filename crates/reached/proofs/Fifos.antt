@@ -19,7 +19,7 @@ use Rattle.chip.specs.Interrupts.{withoutOutgoing}
 use Rattle.chip.specs.declared.Fifo.{Fifo}
 use Rattle.chip.specs.declared.Direction.{Direction}
 use Rattle.chip.specs.declared.Direction.the-variants.{Unfixed, In, Out}
-use Rattle.refusals.proofs.Cases.{by-case, both-first, both-second}
+use Rattle.chip.proofs.Cases.{by-case, both-first, both-second}
 
 pub record Whole (q : Fifo) : Type 0 where
   pub bytes-long : length (q .bytes) ≡ 12

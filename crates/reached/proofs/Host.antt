@@ -28,7 +28,7 @@ use Rattle.chip.specs.declared.Connection.{Connection}
 use Rattle.chip.specs.declared.Direction.{Direction}
 use Rattle.chip.specs.declared.Direction.the-variants.{Unfixed, In, Out}
 use Rattle.chip.specs.declared.Noted.{Noted}
-use Rattle.refusals.proofs.Cases.{by-pick, by-case, both-first, either-first}
+use Rattle.chip.proofs.Cases.{by-pick, by-case, both-first, either-first}
 use Rattle.reached.specs.Sound.{isUnread, outgoing, none, out, Shape, idle, selects, waits, transfers, informs, ending, readOut}
 use Rattle.reached.proofs.Fifos.{Whole, pop-whole, push-whole}
 use Rattle.reached.proofs.Shapes.{Numbered, Good, so, Fine, being, clash, fewer, pop-way, raised, transfers-run}

@@ -20,7 +20,7 @@ use Rattle.chip.specs.Calls.{Call, Outcome, pointer, auxiliary, register, block
 use Rattle.chip.specs.Image.{imageOf, isImage}
 use Rattle.chip.specs.declared.State.{State}
 use Rattle.image.proofs.Laws.{fresh-ok, image-valid}
-use Rattle.refusals.proofs.Cases.{by-pick, by-case, both-second}
+use Rattle.chip.proofs.Cases.{by-pick, by-case, both-second, either-rest}
 use Rattle.reached.specs.Sound.{apart, idle, Sound, Kept}
 use Rattle.reached.proofs.Shapes.{Good, so, Fine}
 use Rattle.reached.proofs.Requests.{request-kept}
@@ -29,11 +29,6 @@ use Rattle.reached.proofs.Host.{data-read-kept, data-written-kept, bloc
 use Rattle.reached.proofs.Commands.{refused, commanded-kept}
 
 -- ---- every call
-
-either-rest : (t u : Bool) → either t u ≡ false → u ≡ false
-unfolding either
-either-rest true u e = absurd (true≢false e)
-either-rest false u e = e
 
 neither : (t u : Bool) → t ≡ false → u ≡ false → not (either t u) ≡ true
 unfolding either

@@ -33,7 +33,7 @@ use Rattle.chip.specs.declared.Noted.{Noted}
 use Rattle.chip.specs.declared.Noted.the-variants.{NoPhase, Was}
 use Rattle.chip.specs.declared.Stage.{Stage}
 use Rattle.chip.specs.declared.Stage.the-variants.{SendIdentify, SendCommand, Body, AfterData, Disconnecting, Reselected, AfterStatus, Elsewhere}
-use Rattle.refusals.proofs.Cases.{by-pick, by-case, both-first}
+use Rattle.chip.proofs.Cases.{by-pick, by-case, both-first}
 use Rattle.reached.specs.Sound.{apart, joined, Way, unfixed, incoming, outgoing, none, Shape, idle, selects, waits, transfers, informs, ending, readOut, Transfers, with-atn, without-atn, Moves, transfer, info}
 use Rattle.reached.proofs.Fifos.{Whole, dropped-whole, pop-whole, push-whole}
 use Rattle.reached.proofs.Shapes.{Numbered, Good, so, Fine, being, in-way, no-more, lowered-way, raised, ended, unless-int}

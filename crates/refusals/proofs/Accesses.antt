@@ -13,7 +13,7 @@ use Rattle.chip.specs.Registers.{pointerAfter, readAt, writtenAt, stepped, acce
 use Rattle.chip.specs.Calls.{register}
 use Rattle.chip.specs.declared.State.{State}
 use Rattle.chip.specs.declared.Reply.{Reply}
-use Rattle.refusals.proofs.Cases.{by-pick, by-case}
+use Rattle.chip.proofs.Cases.{by-pick, by-case}
 use Rattle.refusals.proofs.Fitting.{Fits, did}
 use Rattle.refusals.proofs.DataRegister.{Gives, moves, nothing, read-gives, write-gives}
 

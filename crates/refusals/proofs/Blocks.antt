@@ -24,7 +24,7 @@ use Rattle.chip.specs.declared.Direction.{Direction}
 use Rattle.chip.specs.declared.Direction.the-variants.{Unfixed, In, Out}
 use Rattle.refusals.specs.Refusals.{SameCount}
 use Rattle.refusals.specs.Blocks.{reads, writes, placed, areBytes, BlockIsAccesses}
-use Rattle.refusals.proofs.Cases.{pick-ap, both-first, both-second}
+use Rattle.chip.proofs.Cases.{pick-ap, both-first, both-second}
 use Rattle.refusals.proofs.Counts.{stands}
 use Rattle.refusals.proofs.DataRegister.{Gives, moves, nothing, read-gives, write-gives, read-count, write-count, block-reads-by, block-writes-by}
 

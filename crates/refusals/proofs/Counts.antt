@@ -18,7 +18,7 @@ use Rattle.chip.specs.declared.Phase.{Phase}
 use Rattle.chip.specs.declared.Phase.the-variants.{DataOut, DataIn, CommandOut, StatusIn, UnspecifiedOut, UnspecifiedIn, MessageOut, MessageIn}
 use Rattle.refusals.specs.Refusals.{SameCount}
 use Rattle.refusals.specs.Counting.{isData}
-use Rattle.refusals.proofs.Cases.{by-pick}
+use Rattle.chip.proofs.Cases.{by-pick}
 
 pub stands : {s t : State} → t .registers .count ≡ s .registers .count → t .transfer .one ≡ s .transfer .one → SameCount s t
 stands h k = record { shown = h; beside = k }

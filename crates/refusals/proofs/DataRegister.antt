@@ -21,7 +21,7 @@ use Rattle.chip.specs.declared.Pending.the-variants.{Nothing, Interrupt, Ending
 use Rattle.chip.specs.declared.Direction.{Direction}
 use Rattle.chip.specs.declared.Direction.the-variants.{Unfixed, In, Out}
 use Rattle.refusals.specs.Refusals.{SameCount}
-use Rattle.refusals.proofs.Cases.{by-pick}
+use Rattle.chip.proofs.Cases.{by-pick}
 use Rattle.refusals.proofs.Counts.{stands, then, raise-count}
 
 pub data Gives (s : State) : Reply → Type 0 where

@@ -14,7 +14,7 @@ use Rattle.chip.specs.declared.Running.the-variants.{Idle, SelectWithAtn, Selec
 use Rattle.chip.specs.declared.Connection.{Connection}
 use Rattle.chip.specs.declared.Connection.the-variants.{Disconnected, Selecting, Waiting, Connected}
 use Rattle.refusals.specs.Refusals.{SameCount}
-use Rattle.refusals.proofs.Cases.{by-pick}
+use Rattle.chip.proofs.Cases.{by-pick}
 use Rattle.refusals.proofs.Counts.{stands, then, raise-count, end-count}
 use Rattle.refusals.proofs.Fitting.{Served, passes, holds, elsewhere, unless-held}
 

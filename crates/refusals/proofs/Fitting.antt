@@ -21,7 +21,7 @@ use Rattle.chip.specs.declared.Answer.the-variants.{Done, Held, OutOfPlace, Bad
 use Rattle.refusals.specs.Refusals.{Table, SameCount}
 use Rattle.refusals.specs.Kinds.{may, isAmong}
 use Rattle.refusals.specs.Counting.{Asked}
-use Rattle.refusals.proofs.Cases.{by-pick}
+use Rattle.chip.proofs.Cases.{by-pick}
 use Rattle.refusals.proofs.Counts.{stands}
 
 pub record Fits (c : Call) (s : State) (r : Reply) : Type 0 where

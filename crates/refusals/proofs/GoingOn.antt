@@ -19,7 +19,7 @@ use Rattle.chip.specs.declared.State.{State}
 use Rattle.chip.specs.declared.Reply.{Reply}
 use Rattle.chip.specs.declared.Entry.{Entry}
 use Rattle.refusals.specs.Refusals.{SameCount}
-use Rattle.refusals.proofs.Cases.{by-pick, by-case, both-first, both-second, either-first, either-second, either-last}
+use Rattle.chip.proofs.Cases.{by-pick, by-case, both-first, both-second, either-first, either-second, either-last}
 use Rattle.refusals.proofs.Counts.{stands, then, raise-count, end-count}
 use Rattle.refusals.proofs.DataRegister.{read-count, write-count}
 

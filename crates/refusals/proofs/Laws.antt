@@ -22,7 +22,7 @@ use Rattle.refusals.specs.Refusals.{Table, SameCount, RefusalsKeep}
 use Rattle.refusals.specs.Kinds.{may, isAmong, KindsKept}
 use Rattle.refusals.specs.Counting.{Counting, isRequest, CountFallsOnlyOnTheBus}
 use Rattle.refusals.specs.Silence.{AuxiliaryIsSilent}
-use Rattle.refusals.proofs.Cases.{by-pick, by-case}
+use Rattle.chip.proofs.Cases.{by-pick, by-case}
 use Rattle.refusals.proofs.Counts.{stands}
 use Rattle.refusals.proofs.Fitting.{Fits, did, stood}
 use Rattle.refusals.proofs.Requests.{request-served}

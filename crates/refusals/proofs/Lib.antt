@@ -1,4 +1,3 @@
-pub mod Cases
 pub mod Counts
 pub mod Fitting
 pub mod Requests

@@ -32,7 +32,7 @@ use Rattle.chip.specs.declared.Connection.{Connection}
 use Rattle.chip.specs.declared.Connection.the-variants.{Disconnected, Selecting, Waiting, Connected}
 use Rattle.refusals.specs.Refusals.{SameCount, Untaken, kept, dropped, raised, ending, opened, Noticed}
 use Rattle.refusals.specs.Counting.{isData, isCounted, Falls}
-use Rattle.refusals.proofs.Cases.{by-pick, by-case, both-first, both-second}
+use Rattle.chip.proofs.Cases.{by-pick, by-case, both-first, both-second}
 use Rattle.refusals.proofs.Fitting.{Served, did, passes, holds, elsewhere, unless-held}
 use Rattle.refusals.proofs.Counts.{stands, then, one-less, raise-count, end-count, no-data}
 

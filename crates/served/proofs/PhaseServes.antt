@@ -10,6 +10,7 @@ use native.Mathlib.Omega.{arith}
 use lib.Dec.{ltb, leb, eqb}
 use lib.ListN.{length, length-append}
 use borrow.Author.Tests.{lt-ltb, le-ltb, eq-eqb, ne-eqb, lt-leb, ltb-true}
+use Rattle.chip.proofs.Cases.{true-or-false}
 use Rattle.chip.specs.Choice.{pick}
 use Rattle.chip.specs.Calls.{step}
 use Rattle.chip.specs.Lines.{packed}
@@ -36,7 +37,7 @@ use Rattle.story.proofs.Opening.{scenes}
 use Rattle.served.proofs.Opening.{steps}
 use Rattle.served.proofs.Parts.{theRegisters, theStatus, theTransfer, theWire, theState, theHost, theTarget, theScene, Plays, over, puts, gets, Aimed, Polled, coded, taken, sent, Polls, look, seen, ready}
 use Rattle.served.proofs.Queue.{Lined, none-lined, empty-none, empty-some, room-is, waits-is, front-is, fits, popped, pushed}
-use Rattle.served.proofs.Small.{true-or-false, asked-is, Quiet, unfixed, drained}
+use Rattle.served.proofs.Small.{asked-is, Quiet, unfixed, drained}
 use Rattle.served.proofs.Accesses.{put-done, get-done, wait-at, at-once, Attends, attend, attend-at, bus-idle, none-left}
 use Rattle.served.proofs.Going.{Going, owed-out}
 use Rattle.served.proofs.Polling.{any-poll}

@@ -9,6 +9,7 @@ use native.Mathlib.Omega.{arith}
 use lib.Dec.{ltb, leb, eqb}
 use lib.ListN.{length, length-append}
 use borrow.Author.Tests.{lt-ltb, le-ltb, eq-eqb, ne-eqb, lt-leb, ltb-true}
+use Rattle.chip.proofs.Cases.{true-or-false}
 use Rattle.chip.specs.Choice.{pick, both}
 use Rattle.chip.specs.Fifo.{hasRoom}
 use Rattle.chip.specs.Fifo as F
@@ -29,7 +30,7 @@ use Rattle.served.proofs.Time.{isSelecting, still, Spared, spare-on, sp
 use Rattle.served.proofs.Going.{Going, one-out, owed-out, sending-can, one-more}
 use Rattle.served.proofs.Parts.{theScene, Aimed, before, aimed, Polled, coded, taken, sent, Polls, look, seen, ready, Plays, over, puts, gets, stored-is}
 use Rattle.served.proofs.Queue.{Lined, none-lined, empty-none, empty-some, room-is, waits-is, front-is, popped, pushed}
-use Rattle.served.proofs.Small.{true-or-false, one-less, bytes-tail, tail-bytes, next-byte, no-bytes, no-code, polls-look, polls-quiet, polls-drained, polls-up, small-address, canSend, some-snoc, waiting-some, can-pop, can-room, can-not, can-now, Quiet, unfixed, drained}
+use Rattle.served.proofs.Small.{one-less, bytes-tail, tail-bytes, next-byte, no-bytes, no-code, polls-look, polls-quiet, polls-drained, polls-up, small-address, canSend, some-snoc, waiting-some, can-pop, can-room, can-not, can-now, Quiet, unfixed, drained}
 use Rattle.served.proofs.PhaseFacts.{phase-round, phase-small, same-phase, shown-byte, single-info, heard-11, heard-20, heard-85, heard-named, onto, heard-out, heard-in, heard-read, heard-at, good-byte, noting-on, plays-phase}
 use Rattle.served.proofs.PhaseScenes.{Seg, seg, flat, notesOf, notesAfter, Names, asked, Fits, Good, last, more, After, next, Tale, Heard, Noting, Ready, Counted, Late, polls, Begins, Sends, Takes, Closes, Drains, Ends, Reach, begins, sending, taking, closing, draining, ends, loads, seeks, greets, waits, named, sends, takes, closes, drains, pauses, paused, calm, gone, rests}
 use Rattle.served.proofs.PhaseScenes as S

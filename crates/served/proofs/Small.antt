@@ -12,6 +12,7 @@ use native.Mathlib.Omega.{arith}
 use lib.Dec.{eqb, ltb, leb}
 use lib.ListN.{length, length-append}
 use borrow.Author.Tests.{lt-ltb, le-ltb, ne-eqb, ltb-true}
+use Rattle.chip.proofs.Cases.{both-first, both-second}
 use Rattle.chip.specs.Choice.{pick, both, either}
 use Rattle.chip.specs.Phases.{comesIn}
 use Rattle.chip.specs.Lines.{isOn, packed, bit}
@@ -25,10 +26,6 @@ use Rattle.story.specs.Story.{Item, item, items}
 use Rattle.story.specs.Hosts.{Access, code, take, send, addressOf, askedBy, asked, nextByte, tail}
 use Rattle.served.proofs.Queue.{Lined, empty-none}
 use Rattle.served.proofs.Parts.{Polled, coded, taken, sent, Polls, look, seen, ready}
-
-pub true-or-false : (b : Bool) → (b ≡ true) ⊎ (b ≡ false)
-true-or-false true = inl refl
-true-or-false false = inr refl
 
 pub length-snoc : (l : List ℕ) (b : ℕ) → length (l ++ (b ∷ [])) ≡ suc (length l)
 length-snoc l b = omega (arith, length-append l (b ∷ []))
@@ -179,16 +176,6 @@ waiting-some (b ∷ l) n e = refl
 pub some-snoc : (l : List ℕ) (b : ℕ) → isSome (l ++ (b ∷ [])) ≡ true
 some-snoc [] b = refl
 some-snoc (x ∷ l) b = refl
-
-both-first : (t u : Bool) → both t u ≡ true → t ≡ true
-unfolding both
-both-first true u e = refl
-both-first false u e = e
-
-both-second : (t u : Bool) → both t u ≡ true → u ≡ true
-unfolding both
-both-second true u e = e
-both-second false u e = absurd (false≢true e)
 
 pub can-pop : (b : ℕ) (fifo give : List ℕ) → canSend (b ∷ fifo) give ≡ true → canSend fifo give ≡ true
 unfolding canSend both

@@ -18,7 +18,7 @@ use Rattle.chip.specs.declared.Connection.the-variants.{Disconnected, Selecting
 use Rattle.story.specs.Hosts.{Host, Program}
 use Rattle.story.specs.Schedule.{Target, Scene, passing, passingBy, elapsing}
 use Rattle.served.proofs.Parts.{theScene}
-use Rattle.served.proofs.Small.{true-or-false}
+use Rattle.chip.proofs.Cases.{true-or-false}
 
 abbrev pub isSelecting : Connection → Bool
 isSelecting Disconnected = false

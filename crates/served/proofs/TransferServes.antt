@@ -10,6 +10,7 @@ use native.Mathlib.Omega.{arith}
 use lib.Dec.{ltb, leb, eqb}
 use lib.ListN.{length, getD, length-append}
 use borrow.Author.Tests.{lt-ltb, le-ltb, eq-eqb, ne-eqb, lt-leb, ltb-true, ltb-false}
+use Rattle.chip.proofs.Cases.{true-or-false}
 use Rattle.chip.specs.Choice.{pick}
 use Rattle.chip.specs.State.{empty}
 use Rattle.chip.specs.Calls.{step}
@@ -40,7 +41,7 @@ use Rattle.story.proofs.Opening.{scenes}
 use Rattle.served.proofs.Opening.{steps}
 use Rattle.served.proofs.Parts.{theRegisters, theStatus, theTransfer, theWire, theState, theHost, theTarget, theScene, Plays, over, puts, gets, Aimed, before, aimed, Polled, coded, taken, sent, Polls, look, seen, ready}
 use Rattle.served.proofs.Queue.{Lined, none-lined, empty-none, empty-some, room-is, waits-is, front-is, fits, popped, pushed}
-use Rattle.served.proofs.Small.{true-or-false, length-snoc, asked-is, Quiet, unfixed, drained}
+use Rattle.served.proofs.Small.{length-snoc, asked-is, Quiet, unfixed, drained}
 use Rattle.served.proofs.Stages.{stage-identify, stage-status}
 use Rattle.served.proofs.Accesses.{put-done, get-done, wait-at, at-once, Attends, attend, bus-idle, none-left}
 use Rattle.served.proofs.Going.{Going, owed-out}

@@ -12,6 +12,7 @@ use native.Mathlib.Omega.{arith}
 use lib.Dec.{ltb}
 use lib.ListN.{getD}
 use borrow.Author.Tests.{ltb-true}
+use Rattle.chip.proofs.Cases.{both-first, both-second}
 use Rattle.chip.specs.Choice.{pick, both, either}
 use Rattle.chip.specs.State.{fresh}
 use Rattle.chip.specs.Interrupts.{busy}
@@ -64,22 +65,12 @@ abbrev areBytes : List ℕ → Bool
 areBytes [] = true
 areBytes (b ∷ l) = both (ltb b 256) (areBytes l)
 
-first-of : (t u : Bool) → both t u ≡ true → t ≡ true
-unfolding both
-first-of true u e = refl
-first-of false u e = e
-
-second-of : (t u : Bool) → both t u ≡ true → u ≡ true
-unfolding both
-second-of true u e = e
-second-of false u e = let z : _≡_ {A = Bool} false true = e in let n : _≡_ {A = ℕ} 0 1 = cc in absurd (omega arith)
-
 bytes : (l : List ℕ) → areBytes l ≡ true → Bytes l
 bytes [] e = λ k. omega arith
-bytes (b ∷ l) e = joined (bytes l (second-of (ltb b 256) (areBytes l) e))
+bytes (b ∷ l) e = joined (bytes l (both-second (ltb b 256) (areBytes l) e))
   where
     joined : Bytes l → (k : ℕ) → getD (b ∷ l) k 0 < 256
-    joined r zero = ltb-true b 256 (first-of (ltb b 256) (areBytes l) e)
+    joined r zero = ltb-true b 256 (both-first (ltb b 256) (areBytes l) e)
     joined r (suc k) = r k
 
 pub proper-small : (w : Way) → Proper (small w)

@@ -38,7 +38,8 @@ use Rattle.chip.specs.declared.Fifo.{Fifo}
 use Rattle.chip.specs.declared.Pending.{Pending}
 use Rattle.chip.specs.declared.Pending.the-variants.{Interrupt, Ending}
 use Rattle.unread.specs.Because.{Quiet, Offered, LastMessage, isIdle, isOut, isSpent, stage, expects, expectsBody, expectsLate, wants, fits, halts, isBeforeStatus}
-use Rattle.unread.proofs.Choosing.{taken, passed-over, chosen, by-test, clash, both-first, both-second, not-first, second-fails, second-holds, only-second, neither-first, neither-second}
+use Rattle.chip.proofs.Cases.{by-pick, by-test, both-first, both-second, either-second, either-first, either-rest}
+use Rattle.unread.proofs.Choosing.{taken, passed-over, clash, not-first, second-fails, second-holds}
 use Rattle.unread.proofs.Bus.{remembered-keeps, info-wants, info-spent, by-stage, pushed}
 use Rattle.unread.proofs.Told.{good-step}
 
@@ -151,7 +152,7 @@ module _ (n b m : ℕ) (s : State) where
 
   message-surprises : either (eqb b 0x02) (eqb b 0x04) ≡ false → X.takeMessage b (isSet m) s ≡ X.unexpected MessageIn s
   unfolding X.takeMessage
-  message-surprises e = passed-over _ _ (neither-first _ _ e) ∙ passed-over _ _ (neither-second (eqb b 0x02) _ e)
+  message-surprises e = passed-over _ _ (either-first _ _ e) ∙ passed-over _ _ (either-rest (eqb b 0x02) _ e)
 
   -- a direction that is open or the same: only where none is left
   spent-surprises : (p : Phase) (r : Reply) → both (not (noneLeft s)) true ≡ false → X.unlessNoneLeft p s r ≡ X.unexpected p s
@@ -160,7 +161,7 @@ module _ (n b m : ℕ) (s : State) where
 
   turned-surprises : (p : Phase) → X.unlessNoneLeft p s (X.unexpected p s) ≡ X.unexpected p s
   unfolding X.unlessNoneLeft
-  turned-surprises p = chosen (λ (r : Reply). r ≡ X.unexpected p s) (noneLeft s) refl refl
+  turned-surprises p = by-pick (λ (r : Reply). r ≡ X.unexpected p s) (noneLeft s) refl refl
 
   out-surprises : (d : Direction) → both (not (noneLeft s)) (not (isIncoming d)) ≡ false
       → X.unlessNoneLeft DataOut s (X.dataOut d s) ≡ X.unexpected DataOut s
@@ -351,7 +352,7 @@ module _ (n b m : ℕ) (s : State) where
       refl)
     where
       room : both (isTransfer (s .transfer .running)) (not (samePhase p DataIn)) ≡ false → hasRoom (s .fifo) ≡ true
-      room e = only-second _ _ f e
+      room e = either-second _ _ f e
 
   -- the last Message In byte: it is unread itself, where it comes in
   pub last-row : LastMessage n b m s → Ended 0x20 (isIncoming (s .transfer .direction)) (step (request n b m) s .state)

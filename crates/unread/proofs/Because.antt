@@ -16,7 +16,8 @@ use Rattle.chip.specs.declared.Pending.the-variants.{Nothing, Interrupt, Ending
 use Rattle.unread.specs.Status.{isReset}
 use Rattle.unread.specs.Because as B
 use Rattle.unread.specs.Because.{Quiet, Brings, Begins, ReadsOut, Because, RaisedBecause, EndingBecause}
-use Rattle.unread.proofs.Choosing.{by-test, clash}
+use Rattle.chip.proofs.Cases.{by-test}
+use Rattle.unread.proofs.Choosing.{clash}
 use Rattle.unread.proofs.Telling.{plain-int, cleared-int, Standing, Tells, isPlain, silent, moves, selects, settles, begins, raises, reads, resets}
 use Rattle.unread.proofs.Told.{told, reset-told}
 use Rattle.unread.proofs.Unread.{raised-from-quiet, raised-sets-int, raised-anew, raised-reset}

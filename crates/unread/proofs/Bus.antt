@@ -41,14 +41,15 @@ use Rattle.chip.specs.declared.Phase.{Phase}
 use Rattle.chip.specs.declared.Phase.the-variants.{DataOut, DataIn, CommandOut, StatusIn, UnspecifiedOut, UnspecifiedIn, MessageOut, MessageIn}
 use Rattle.unread.specs.Because as B
 use Rattle.unread.specs.Because.{Quiet, Brings, Offered, LastMessage, isIdle, isSpent, stage, expects, expectsBody, expectsLate, wants, fits, halts, isBeforeStatus}
-use Rattle.unread.proofs.Choosing.{chosen, chosen-if, by-test, clash, both-first, both-second, not-first}
+use Rattle.chip.proofs.Cases.{by-pick, by-case, by-test, both-first, both-second}
+use Rattle.unread.proofs.Choosing.{clash, not-first}
 use Rattle.unread.proofs.Telling.{standing, isSelecting, Tells, so, ToldReply, silent, moves, settles, raises, gone, unless-int, ended, brought, quiet-of}
 
 -- Time, Answer, Reselection
 
 pub passed-tells : (n : ℕ) (s : State) → isGood (time n) ≡ true → ToldReply (time n) s (E.passed n s)
 unfolding E.passed E.selectionTime E.timedOut raise outgoingDropped
-passed-tells n s good = chosen-if Says _ (λ e. so (silent (λ q. refl))) (λ e. by-connection e (s .wire .connection) refl)
+passed-tells n s good = by-case Says _ (λ e. so (silent (λ q. refl))) (λ e. by-connection e (s .wire .connection) refl)
   where
     Says : Reply → Type 0
     Says r = ToldReply (time n) s r
@@ -56,9 +57,9 @@ passed-tells n s good = chosen-if Says _ (λ e. so (silent (λ q. refl))) (λ e.
     by-connection : ends s ≡ false → (x : Connection) → s .wire .connection ≡ x → Says (E.passedBy x n s)
     by-connection e Disconnected f = so (silent (λ q. refl))
     by-connection e Selecting f =
-        chosen-if Says _ (λ i. so (silent (λ q. refl)))
-        (λ i. chosen-if Says _ (λ t. so (silent (λ q. refl)))
-        (λ t. chosen-if Says _ (λ u. so (raises i (B.times-out good (quiet-of _ i e) f t u) (gone refl))) (λ u. so (silent (λ q. refl)))))
+        by-case Says _ (λ i. so (silent (λ q. refl)))
+        (λ i. by-case Says _ (λ t. so (silent (λ q. refl)))
+        (λ t. by-case Says _ (λ u. so (raises i (B.times-out good (quiet-of _ i e) f t u) (gone refl))) (λ u. so (silent (λ q. refl)))))
     by-connection e Waiting f = so (silent (λ q. refl))
     by-connection e Connected f = so (silent (λ q. refl))
 
@@ -72,14 +73,14 @@ answered-tells s = by-connection (s .wire .connection) refl
     by-connection : (x : Connection) → s .wire .connection ≡ x → Says (E.answeredBy x s)
     by-connection Disconnected f = so (moves (ap isSelecting f))
     by-connection Selecting f =
-        chosen-if Says _ (λ e. so (silent (λ q. clash e (ap isEnding q))))
-        (λ e. chosen-if Says _ (λ t. so (moves refl)) (λ t. unless-int _ (λ i. so (raises i (B.answers (quiet-of _ i e) f t) (gone refl)))))
+        by-case Says _ (λ e. so (silent (λ q. clash e (ap isEnding q))))
+        (λ e. by-case Says _ (λ t. so (moves refl)) (λ t. unless-int _ (λ i. so (raises i (B.answers (quiet-of _ i e) f t) (gone refl)))))
     by-connection Waiting f = so (moves (ap isSelecting f))
     by-connection Connected f = so (moves (ap isSelecting f))
 
 pub reselected-tells : (lines : ℕ) (s : State) → isGood (reselection lines) ≡ true → ToldReply (reselection lines) s (E.reselected lines s)
 unfolding E.reselected E.reselectedLoud E.reselectedWaiting E.reselectedState E.connected raise outgoingDropped both
-reselected-tells lines s good = chosen-if Says _ (λ q. by-connection q (s .wire .connection) refl) (λ q. so (silent (λ q. refl)))
+reselected-tells lines s good = by-case Says _ (λ q. by-connection q (s .wire .connection) refl) (λ q. so (silent (λ q. refl)))
   where
     Says : Reply → Type 0
     Says r = ToldReply (reselection lines) s r
@@ -89,10 +90,10 @@ reselected-tells lines s good = chosen-if Says _ (λ q. by-connection q (s .wire
     loud e q x w = unless-int _ (λ i. so (raises i (B.reselects good (quiet-of _ i e) q x w) (gone refl)))
 
     by-connection : qualifies lines s ≡ true → (x : Connection) → s .wire .connection ≡ x → Says (E.reselectedBy x lines s)
-    by-connection q Disconnected f = chosen-if Says _ (λ e. so (silent (λ q. refl))) (λ e. loud e q (rw f) (rw f))
-    by-connection q Selecting f = chosen-if Says _ (λ e. so (silent (λ q. refl))) (λ e. loud e q (rw f) (rw f))
+    by-connection q Disconnected f = by-case Says _ (λ e. so (silent (λ q. refl))) (λ e. loud e q (rw f) (rw f))
+    by-connection q Selecting f = by-case Says _ (λ e. so (silent (λ q. refl))) (λ e. loud e q (rw f) (rw f))
     by-connection q Waiting f =
-        chosen-if Says _ (λ e. so (silent (λ q. refl))) (λ e. chosen-if Says _ (λ t. so (moves refl)) (λ t. loud e q (rw f) (rw (t, f))))
+        by-case Says _ (λ e. so (silent (λ q. refl))) (λ e. by-case Says _ (λ t. so (moves refl)) (λ t. loud e q (rw f) (rw (t, f))))
     by-connection q Connected f = so (silent (λ q. refl))
 
 -- Requests
@@ -164,7 +165,7 @@ module _ (n b m : ℕ) (s : State) (z : isSelecting (s .wire .connection) ≡ fa
         → (halts m s ≡ false → Says r) → Says (I.unlessHalted (isSet m) s r)
     unfolding I.unlessHalted I.halted halts unread
     unless-halted p r o w c f k =
-        chosen-if Says _ (λ h. unless-int _ (λ i. brought _ refl z refl (o i .quiet) (B.spoils (o i) runs w c f h))) k
+        by-case Says _ (λ h. unless-int _ (λ i. brought _ refl z refl (o i .quiet) (B.spoils (o i) runs w c f h))) k
 
   -- to a Transfer Info
   module _ (runs : s .transfer .running ≡ TransferInfo) where
@@ -185,13 +186,13 @@ module _ (n b m : ℕ) (s : State) (z : isSelecting (s .wire .connection) ≡ fa
 
     info-out-tells : (p : Phase) → Says (I.infoOut p s)
     unfolding I.infoOut lowered
-    info-out-tells p = chosen Says _ (so still) (so still)
+    info-out-tells p = by-pick Says _ (so still) (so still)
 
     taken-tells : (p : Phase) → Comes p → wants p b s ≡ true → hasRoom (s .fifo) ≡ true → halts m s ≡ false
         → Says (I.infoTaken p b (isSet m) s)
     unfolding I.infoTaken I.takenIn lowered I.parityNoted unread
     taken-tells p o w r h =
-        chosen-if Says _
+        by-case Says _
         (λ l. unless-int _
         (λ i. ended _ refl z (o i .quiet) (λ u. B.keeps-last (last-message l i) (both-first _ _ u))
         (λ u. B.takes-last (last-message l i) (not-first _ _ u (rw (pushed b (s .fifo) r))))))
@@ -205,9 +206,9 @@ module _ (n b m : ℕ) (s : State) (z : isSelecting (s .wire .connection) ≡ fa
     info-tells : (p : Phase) → Comes p → Says (I.infoRequest p b (isSet m) s)
     unfolding I.infoRequest I.infoIn
     info-tells p o =
-        chosen-if Says _
-        (λ w. chosen-if Says _
-        (λ c. chosen-if Says _
+        by-case Says _
+        (λ w. by-case Says _
+        (λ c. by-case Says _
         (λ r. unless-halted (rw runs) p _ o (rw (info-wants p b s runs, w)) c (info-fits p r) (taken-tells p o (rw (info-wants p b s runs, w)) r))
         (λ r. so still))
         (λ c. info-out-tells p))
@@ -247,21 +248,21 @@ module _ (n b m : ℕ) (s : State) (z : isSelecting (s .wire .connection) ≡ fa
         → Says (X.takeMessage b (isSet m) s)
     unfolding X.takeMessage X.takeSave X.takeDisconnect I.parityNoted unread either
     message-tells o early e =
-        chosen-if Says _
+        by-case Says _
         (λ x. taken-unless MessageIn _ o (rw (e, x)) refl (no-room MessageIn refl)
         (λ h. unless-int _ (λ i. brought _ refl z refl (o i .quiet) (B.saves (o i) runs (rw (at, early)) x h))))
-        (λ x. chosen-if Says _ (λ y. taken-unless MessageIn _ o (rw (e, x, y)) refl (no-room MessageIn refl) (λ h. so still))
+        (λ x. by-case Says _ (λ y. taken-unless MessageIn _ o (rw (e, x, y)) refl (no-room MessageIn refl) (λ h. so still))
         (λ y. surprised MessageIn o (rw (e, x, y))))
 
   module _ (runs : isTransfer (s .transfer .running) ≡ true) where
     send-tells : Says (X.sendData s)
     unfolding X.sendData lowered
-    send-tells = chosen Says _ (so still) (so still)
+    send-tells = by-pick Says _ (so still) (so still)
 
     take-tells : stage s ≡ Body → Comes DataIn → expectsBody DataIn b s ≡ true → Says (X.takeData b (isSet m) s)
     unfolding X.takeData I.takenIn lowered I.parityNoted fits both either expects
     take-tells at o e =
-        chosen-if Says _ (λ r. taken-unless runs Body at DataIn _ o e refl (rw (runs, r)) (λ h. so still)) (λ r. so still)
+        by-case Says _ (λ r. taken-unless runs Body at DataIn _ o e refl (rw (runs, r)) (λ h. so still)) (λ r. so still)
 
     out-tells : stage s ≡ Body → Comes DataOut → noneLeft s ≡ false → (d : Direction) → s .transfer .direction ≡ d → Says (X.dataOut d s)
     unfolding X.dataOut expects expectsBody both
@@ -278,8 +279,8 @@ module _ (n b m : ℕ) (s : State) (z : isSelecting (s .wire .connection) ≡ fa
 
     body-tells : stage s ≡ Body → (p : Phase) → Comes p → Says (X.bodyRequest p b (isSet m) s)
     unfolding X.bodyRequest X.unlessNoneLeft expects expectsBody both
-    body-tells at DataOut o = chosen-if Says _ (λ l. surprised runs Body at DataOut o (rw l)) (λ l. out-tells at o l _ refl)
-    body-tells at DataIn o = chosen-if Says _ (λ l. surprised runs Body at DataIn o (rw l)) (λ l. in-tells at o l _ refl)
+    body-tells at DataOut o = by-case Says _ (λ l. surprised runs Body at DataOut o (rw l)) (λ l. out-tells at o l _ refl)
+    body-tells at DataIn o = by-case Says _ (λ l. surprised runs Body at DataIn o (rw l)) (λ l. in-tells at o l _ refl)
     body-tells at CommandOut o = surprised runs Body at CommandOut o refl
     body-tells at StatusIn o = status-tells runs Body at o refl
     body-tells at UnspecifiedOut o = surprised runs Body at UnspecifiedOut o refl
@@ -310,15 +311,15 @@ module _ (n b m : ℕ) (s : State) (z : isSelecting (s .wire .connection) ≡ fa
 
     at-stage : (g : Stage) → stage s ≡ g → (p : Phase) → Comes p → Says (X.requestAt g p b (isSet m) s)
     unfolding X.requestAt X.sendIdentify X.sendCommand X.takeIdentify X.takeComplete X.completed I.parityNoted unread expects
-    at-stage SendIdentify at p o = chosen-if Says _ (λ e. so still) (surprised runs SendIdentify at p o)
-    at-stage (SendCommand x) at p o = chosen-if Says _ (λ e. so still) (surprised runs (SendCommand x) at p o)
+    at-stage SendIdentify at p o = by-case Says _ (λ e. so still) (surprised runs SendIdentify at p o)
+    at-stage (SendCommand x) at p o = by-case Says _ (λ e. so still) (surprised runs (SendCommand x) at p o)
     at-stage Body at p o = body-tells at p o
     at-stage AfterData at p o = late-tells at p o
     at-stage Disconnecting at p o = surprised runs Disconnecting at p o refl
     at-stage Reselected at p o =
-        chosen-if Says _ (λ e. message-taken Reselected at p _ o e (both-first _ _ e) (λ h. so still)) (surprised runs Reselected at p o)
+        by-case Says _ (λ e. message-taken Reselected at p _ o e (both-first _ _ e) (λ h. so still)) (surprised runs Reselected at p o)
     at-stage AfterStatus at p o =
-        chosen-if Says _
+        by-case Says _
         (λ e. message-taken AfterStatus at p _ o e (both-first _ _ e)
         (λ h. unless-int _ (λ i. brought _ refl z refl (o i .quiet) (completes at p (o i) e h))))
         (surprised runs AfterStatus at p o)
@@ -327,7 +328,7 @@ module _ (n b m : ℕ) (s : State) (z : isSelecting (s .wire .connection) ≡ fa
   idle-tells : isIdle (s .transfer .running) ≡ true → (p : Phase) → Comes p → Says (E.idleRequest p s)
   unfolding E.idleRequest raise outgoingDropped
   idle-tells r p o =
-      chosen-if Says _ (λ e. so still) (λ e. unless-int _ (λ i. so (raises i (B.asks (o i) r e) (gone z))))
+      by-case Says _ (λ e. so still) (λ e. unless-int _ (λ i. so (raises i (B.asks (o i) r e) (gone z))))
 
   served-tells : (p : Phase) → Comes p → (r : Running) → s .transfer .running ≡ r → Says (E.servedBy r p b (isSet m) s)
   unfolding X.transferRequest stage
@@ -341,8 +342,8 @@ module _ (n b m : ℕ) (s : State) (z : isSelecting (s .wire .connection) ≡ fa
   connected-tells : isGood (request n b m) ≡ true → s .wire .connection ≡ Connected → Says (E.requestedConnected (phaseOf n) b (isSet m) s)
   unfolding E.requestedConnected
   connected-tells good x =
-      chosen-if Says _ (λ e. so still)
-      (λ e. chosen-if Says _ (λ a. so still)
+      by-case Says _ (λ e. so still)
+      (λ e. by-case Says _ (λ a. so still)
       (λ a. served-tells (phaseOf n)
       (λ i. record { good = good; phase = refl; quiet = quiet-of _ i e; connected = x; released = a }) _ refl))
 
@@ -380,9 +381,9 @@ module _ (s : State) where
     transfer-free-tells : isTransfer (s .transfer .running) ≡ true → Leaves (X.transferFree s (E.busFree s))
     unfolding X.transferFree X.freeAfterDisconnect X.freeToWait E.busFree unread
     transfer-free-tells r =
-        chosen-if Leaves _
-        (λ e. chosen-if Leaves _ (λ d. unless-int _ (λ i. brought _ refl refl refl (q i) (B.leaves-transfer (q i) x r e d)))
-        (λ d. chosen Leaves _ (unless-int _ (λ i. so (settles i refl refl))) (so (moves refl))))
+        by-case Leaves _
+        (λ e. by-case Leaves _ (λ d. unless-int _ (λ i. brought _ refl refl refl (q i) (B.leaves-transfer (q i) x r e d)))
+        (λ d. by-pick Leaves _ (unless-int _ (λ i. so (settles i refl refl))) (so (moves refl))))
         (λ e. unless-int _ (λ i. brought _ refl refl refl (q i) (B.cuts-transfer (q i) x r e)))
 
     freed-from : (r : Running) → s .transfer .running ≡ r → Leaves (E.freedFrom r s)
@@ -401,4 +402,4 @@ module _ (s : State) where
       by-connection Disconnected x = so (silent (λ q. refl))
       by-connection Selecting x = so (silent (λ q. refl))
       by-connection Waiting x = so (silent (λ q. refl))
-      by-connection Connected x = chosen-if Leaves _ (λ e. so (silent (λ q. refl))) (λ e. freed-from (λ i. quiet-of _ i e) x _ refl)
+      by-connection Connected x = by-case Leaves _ (λ e. so (silent (λ q. refl))) (λ e. freed-from (λ i. quiet-of _ i e) x _ refl)

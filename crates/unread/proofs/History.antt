@@ -15,7 +15,8 @@ use Rattle.chip.specs.declared.State.{State}
 use Rattle.unread.specs.Status.{isReset, readsAt}
 use Rattle.unread.specs.History as H
 use Rattle.unread.specs.History.{Happening, noted, history, run, lastCode, isUnread, Orderly, isRaising, hasRead, NoStatusLost}
-use Rattle.unread.proofs.Choosing.{chosen-if, clash}
+use Rattle.chip.proofs.Cases.{by-case}
+use Rattle.unread.proofs.Choosing.{clash}
 use Rattle.unread.proofs.Telling.{plain-int, cleared-int, Standing, Tells, silent, moves, selects, settles, begins, raises, reads, resets}
 use Rattle.unread.proofs.Told.{told, reset-told, ReadTold, blind, read, status-read}
 use Rattle.unread.proofs.Unread.{raised-from-quiet, raised-sets-int, raised-anew}
@@ -47,10 +48,10 @@ read-follows {s} (read a k q) = rw a (told-code k (ap isInterrupt q ∙ cleared-
 follows : (c : Call) (s : State) → Follows s (step c s .state) (noted c s (step c s))
 unfolding noted
 follows c s =
-    chosen-if (Follows s (step c s .state)) _ (λ r. reset (reset-told c s r .0) (rw (reset-told c s r .1)))
-    (λ r. chosen-if (Follows s (step c s .state)) _
+    by-case (Follows s (step c s .state)) _ (λ r. reset (reset-told c s r .0) (rw (reset-told c s r .1)))
+    (λ r. by-case (Follows s (step c s .state)) _
     (λ e. raise (raised-from-quiet c s r e) (raised-sets-int c s _ e))
-    (λ n. chosen-if (Follows s (step c s .state)) _ (λ d. read-follows (status-read c s d))
+    (λ n. by-case (Follows s (step c s .state)) _ (λ d. read-follows (status-read c s d))
     (λ d. let u = untouched (told c s .tells) r d (λ j i. clash (raised-anew c s _ i j) n) in still (u .0) (u .1))))
 
 -- an orderly history, with what one call did before it

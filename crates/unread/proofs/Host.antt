@@ -39,18 +39,19 @@ use Rattle.chip.specs.declared.Running.the-variants.{Idle}
 use Rattle.unread.specs.Status.{isCommand, isReset, isSelection, isAnswer, readsAt}
 use Rattle.unread.specs.Because as B
 use Rattle.unread.specs.Because.{Quiet, Because}
-use Rattle.unread.proofs.Choosing.{chosen, chosen-if, by-test, clash, both-first, both-second, not-first, only-first, neither-first, neither-second, one-or, one-of}
+use Rattle.chip.proofs.Cases.{by-pick, by-case, by-test, both-first, both-second, either-first, either-rest}
+use Rattle.unread.proofs.Choosing.{clash, not-first, only-first, one-or, one-of}
 use Rattle.unread.proofs.Telling.{connected-apart, Standing, standing, isSelecting, Tells, ToldState, so, ToldReply, silent, moves, selects, settles, raises, reads, resets, gone, there, ended, brought, quiet-of, is-connected}
 
 -- commands
 
 not-busy-runs : (s : State) → busy s ≡ false → isRunning (s .transfer .running) ≡ false
 unfolding busy
-not-busy-runs s e = neither-first _ _ e
+not-busy-runs s e = either-first _ _ e
 
 not-busy-ends : (s : State) → busy s ≡ false → ends s ≡ false
 unfolding busy
-not-busy-ends s e = neither-second (isRunning (s .transfer .running)) _ e
+not-busy-ends s e = either-rest (isRunning (s .transfer .running)) _ e
 
 -- a command that is not valid and not refused by a busy controller: nothing runs
 invalid-idle : (k : ℕ) (s : State) → isRefusedBusy k s ≡ false → isValid k s ≡ false → busy s ≡ false
@@ -142,7 +143,7 @@ module _
     unfolding aborted accepted raise outgoingDropped unread
     aborted-tells e v =
         let q : Quiet s = quiet-of _ i (abort-ends _ s e v) in
-        chosen-if Told _
+        by-case Told _
         (λ x. brought _ refl (connected-apart (s .wire .connection) x) refl q
         (B.aborts-connected (is-command 0x01 e) q (abort-runs _ s e v) (is-connected _ x)))
         (λ x. so (raises i (B.aborts (is-command 0x01 e) q (abort-runs _ s e v) x) (gone refl)))
@@ -156,8 +157,8 @@ module _
     transferring-tells r n w f =
         let v : isSelect (codeOf b) ≡ true = transfer-selects (codeOf b) w in
         let q : Quiet s = select-quiet v f in
-        chosen-if Told _
-        (λ x. chosen-if Told _
+        by-case Told _
+        (λ x. by-case Told _
         (λ h. ended _ refl (connected-apart (s .wire .connection) x) q (λ u. clash u refl)
         (λ u. B.resumes (codeOf b) own-code w q (not-busy-runs s (select-idle (codeOf b) s v f)) (is-connected _ x) (eqb-true _ _ h)))
         (λ h. so (moves (connected-apart (s .wire .connection) x))))
@@ -167,16 +168,16 @@ module _
         → Told (carriedOut (codeOf b) single (accepted b s))
     unfolding carriedOut accepted disconnected selecting informing loadedInfo isSelect either
     carried-tells single n0 r v =
-        chosen-if Told _ (λ e. aborted-tells e v)
+        by-case Told _ (λ e. aborted-tells e v)
         (λ n1. let z : isSelecting (s .wire .connection) ≡ false = valid-apart (codeOf b) s n0 n1 v in
-        chosen Told _ (so (moves z))
-        (chosen Told _ (so (moves z))
-        (chosen Told _ (so (settles i refl refl))
-        (chosen-if Told _ (λ e. let w : isSelect (codeOf b) ≡ true = rw e in so (selects (is-selection w) (select-quiet w r) refl))
-        (λ n6. chosen-if Told _ (λ e. let w : isSelect (codeOf b) ≡ true = rw (n6, e) in so (selects (is-selection w) (select-quiet w r) refl))
-        (λ n7. chosen-if Told _ (λ e. transferring-tells _ refl (rw e) r)
-        (λ n8. chosen-if Told _ (λ e. transferring-tells _ refl (rw (n8, e)) r)
-        (λ n9. chosen Told _ (so (moves z)) (so (moves z))))))))))
+        by-pick Told _ (so (moves z))
+        (by-pick Told _ (so (moves z))
+        (by-pick Told _ (so (settles i refl refl))
+        (by-case Told _ (λ e. let w : isSelect (codeOf b) ≡ true = rw e in so (selects (is-selection w) (select-quiet w r) refl))
+        (λ n6. by-case Told _ (λ e. let w : isSelect (codeOf b) ≡ true = rw (n6, e) in so (selects (is-selection w) (select-quiet w r) refl))
+        (λ n7. by-case Told _ (λ e. transferring-tells _ refl (rw e) r)
+        (λ n8. by-case Told _ (λ e. transferring-tells _ refl (rw (n8, e)) r)
+        (λ n9. by-pick Told _ (so (moves z)) (so (moves z))))))))))
 
   is-reset : eqb (codeOf b) 0x00 ≡ true → isReset (register m b) s ≡ true
   unfolding isReset
@@ -185,10 +186,10 @@ module _
   pub commanded-tells : ToldReply (register m b) s (commanded b s)
   unfolding commanded reset accepted
   commanded-tells =
-      chosen-if (ToldReply (register m b) s) _ (λ e. so (resets (is-reset e) refl))
-      (λ n. chosen-if (ToldReply (register m b) s) _ (λ i. so still)
-      (λ i. chosen-if (ToldReply (register m b) s) _ (λ r. so still)
-      (λ r. chosen-if (ToldReply (register m b) s) _ (carried-tells i _ n r)
+      by-case (ToldReply (register m b) s) _ (λ e. so (resets (is-reset e) refl))
+      (λ n. by-case (ToldReply (register m b) s) _ (λ i. so still)
+      (λ i. by-case (ToldReply (register m b) s) _ (λ r. so still)
+      (λ r. by-case (ToldReply (register m b) s) _ (carried-tells i _ n r)
       (λ v. let idle : busy s ≡ false = invalid-idle _ s r v in
       so (raises i (B.refuses (codeOf b) own-code n (quiet-of _ i (not-busy-ends s idle)) (not-busy-runs s idle) v)
       (there (λ q. not-busy-runs s idle)))))))
@@ -239,8 +240,8 @@ pops-settled s ReadOut e d w = wait-read e
 pops-in : (s : State) → s .transfer .direction ≡ In → Pops s (dataReadBy In s .state)
 unfolding settled
 pops-in s d =
-    chosen-if (λ (r : Reply). Pops s (r .state)) (dbr s)
-    (λ e. chosen-if (Pops s) _ (λ w. pops-settled s _ refl (rw d) (last-one e w)) (λ w. one-read (rw d) (holds e)))
+    by-case (λ (r : Reply). Pops s (r .state)) (dbr s)
+    (λ e. by-case (Pops s) _ (λ w. pops-settled s _ refl (rw d) (last-one e w)) (λ w. one-read (rw d) (holds e)))
     (λ e. nothing-read)
   where
     holds : dbr s ≡ true → isEmpty (s .fifo) ≡ false
@@ -301,7 +302,7 @@ written-stands b s = by-way (s .transfer .direction)
     by-way : (d : Direction) → standing (dataWrittenBy d b s .state) ≡ standing s
     by-way Unfixed = refl
     by-way In = refl
-    by-way Out = chosen (λ (r : Reply). standing (r .state) ≡ standing s) _ refl refl
+    by-way Out = by-pick (λ (r : Reply). standing (r .state) ≡ standing s) _ refl refl
 
 block-stands : (l : List ℕ) (s : State) → standing (blockWritten l s .state) ≡ standing s
 unfolding blockWritten
@@ -335,23 +336,23 @@ module _ (m b : ℕ) (s : State) (good : isGood (register m b) ≡ true) where
   read-tells : isSet m ≡ false → Says (readAt (s .status .pointer) s)
   unfolding readAt
   read-tells w =
-      chosen-if Says _ (λ e. so (reads (is-read 0x17 w e) refl))
-      (λ n. chosen Says _ (so unmoved)
-      (chosen-if Says _
+      by-case Says _ (λ e. so (reads (is-read 0x17 w e) refl))
+      (λ n. by-pick Says _ (so unmoved)
+      (by-case Says _
       (λ e. so (drained {n = 1} refl (λ j d v u f. B.reads (B.byte (is-read 0x19 w e) d (omega arith) f)) (then (pops s) drains-nothing)))
       (λ o. so unmoved)))
 
   stored-tells : (a : ℕ) → ToldState (register m b) s (stored a b s)
   unfolding stored
   stored-tells a =
-      chosen Told _ (so unmoved)
-      (chosen Told _ (so unmoved)
-      (chosen Told _ (so unmoved)
-      (chosen Told _ (so unmoved)
-      (chosen Told _ (so unmoved)
-      (chosen Told _ (so unmoved)
-      (chosen Told _ (so unmoved)
-      (chosen Told _ (so unmoved) (chosen Told _ (so unmoved) (chosen Told _ (so unmoved) (chosen Told _ (so unmoved) (so unmoved)))))))))))
+      by-pick Told _ (so unmoved)
+      (by-pick Told _ (so unmoved)
+      (by-pick Told _ (so unmoved)
+      (by-pick Told _ (so unmoved)
+      (by-pick Told _ (so unmoved)
+      (by-pick Told _ (so unmoved)
+      (by-pick Told _ (so unmoved)
+      (by-pick Told _ (so unmoved) (by-pick Told _ (so unmoved) (by-pick Told _ (so unmoved) (by-pick Told _ (so unmoved) (so unmoved)))))))))))
     where
       Told : State → Type 0
       Told t = ToldState (register m b) s t
@@ -359,12 +360,12 @@ module _ (m b : ℕ) (s : State) (good : isGood (register m b) ≡ true) where
   written-tells : isSet m ≡ true → Says (writtenAt (s .status .pointer) b s)
   unfolding writtenAt
   written-tells w =
-      chosen-if Says _ (commanded-tells m b s good w)
-      (λ n. chosen Says _ (so (rw (written-stands b s) unmoved)) (stored-tells (s .status .pointer)))
+      by-case Says _ (commanded-tells m b s good w)
+      (λ n. by-pick Says _ (so (rw (written-stands b s) unmoved)) (stored-tells (s .status .pointer)))
 
   at-address-tells : Says (accessedAt (s .status .pointer) (isSet m) b s)
   unfolding accessedAt
-  at-address-tells = chosen Says _ (so unmoved) (chosen-if Says _ written-tells read-tells)
+  at-address-tells = by-pick Says _ (so unmoved) (by-case Says _ written-tells read-tells)
 
   pub accessed-tells : Says (accessed (isSet m) b s)
   unfolding accessed stepped

@@ -36,7 +36,8 @@ use Rattle.chip.specs.declared.Pending.{Pending}
 use Rattle.chip.specs.declared.Pending.the-variants.{Ending}
 use Rattle.unread.specs.Status.{isCommand, readsAt}
 use Rattle.unread.specs.Because.{Quiet}
-use Rattle.unread.proofs.Choosing.{taken, passed-over, by-test, clash, second-fails, one-of}
+use Rattle.chip.proofs.Cases.{by-test}
+use Rattle.unread.proofs.Choosing.{taken, passed-over, clash, second-fails, one-of}
 use Rattle.unread.proofs.Host.{some-wait, holds-some, one-less}
 use Rattle.unread.proofs.Told.{good-step, Issued, issued, Reading, reading}
 use Rattle.unread.proofs.Asked.{seen, shown, Raised, Ended, raised-by, ended-by, open-event}

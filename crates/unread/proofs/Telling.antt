@@ -25,7 +25,8 @@ use Rattle.chip.specs.declared.Connection.{Connection}
 use Rattle.chip.specs.declared.Connection.the-variants.{Disconnected, Selecting, Waiting, Connected}
 use Rattle.unread.specs.Status.{isReset, isSelection, isAnswer, readsAt}
 use Rattle.unread.specs.Because.{Quiet, Brings, Begins, Because, brings-unread, brings}
-use Rattle.unread.proofs.Choosing.{chosen-if, clash}
+use Rattle.chip.proofs.Cases.{by-case}
+use Rattle.unread.proofs.Choosing.{clash}
 
 -- neither INT nor an ending that has a code
 abbrev pub isPlain : Pending → Bool
@@ -125,12 +126,12 @@ connected-apart x e = ap isSelecting (is-connected x e)
 module _ {c : Call} {s : State} where
   pub unless-int : (r : Reply) → (interrupted s ≡ false → ToldReply c s r) → ToldReply c s (unlessInterrupt s r)
   unfolding unlessInterrupt
-  unless-int r h = chosen-if (ToldReply c s) _ (λ i. so (silent (λ q. clash i (ap isInterrupt q)))) h
+  unless-int r h = by-case (ToldReply c s) _ (λ i. so (silent (λ q. clash i (ap isInterrupt q)))) h
 
   pub ended : {k : ℕ} (t : State) → t .status .code ≡ s .status .code → isSelecting (t .wire .connection) ≡ false → Quiet s
       → (unread t ≡ true → Begins c s k) → (unread t ≡ false → Because c s k) → ToldState c s (endingWith k t)
   unfolding endingWith raise outgoingDropped
-  ended t e z q x y = chosen-if (ToldState c s) _ (λ w. so (rw e (begins q (x w) z))) (λ w. so (raises (rw q) (y w) (gone z)))
+  ended t e z q x y = by-case (ToldState c s) _ (λ w. so (rw e (begins q (x w) z))) (λ w. so (raises (rw q) (y w) (gone z)))
 
   pub brought : {k : ℕ} (t : State) → t .status .code ≡ s .status .code → isSelecting (t .wire .connection) ≡ false
       → unread t ≡ unread s → Quiet s → Brings c s k → ToldState c s (endingWith k t)

@@ -23,7 +23,8 @@ use Rattle.chip.specs.declared.Reply.{Reply}
 use Rattle.chip.specs.declared.Answer.the-variants.{Done, Blind}
 use Rattle.chip.specs.declared.Pending.the-variants.{Interrupt}
 use Rattle.unread.specs.Status.{isCommand, isReset, isAnswer, readsAt}
-use Rattle.unread.proofs.Choosing.{chosen, chosen-if, by-test, clash, both-first, both-second}
+use Rattle.chip.proofs.Cases.{by-pick, by-case, by-test, both-first, both-second}
+use Rattle.unread.proofs.Choosing.{clash}
 use Rattle.unread.proofs.Telling.{ToldState, so, ToldReply, silent}
 use Rattle.unread.proofs.Host.{accessed-tells, block-tells, block-written-tells}
 use Rattle.unread.proofs.Bus.{passed-tells, answered-tells, reselected-tells, requested-tells, freed-tells}
@@ -43,14 +44,14 @@ no-answer free g = refl
 
 pub told : (c : Call) (s : State) → ToldState c s (step c s .state)
 unfolding step carried R.pointerSet R.pointerRead R.auxiliaryRead
-told c s = chosen-if (λ (o : Outcome). ToldState c s (o .state)) _ (by-call c) (λ g. so (silent (λ q. no-answer c g)))
+told c s = by-case (λ (o : Outcome). ToldState c s (o .state)) _ (by-call c) (λ g. so (silent (λ q. no-answer c g)))
   where
     by-call : (c : Call) → isGood c ≡ true → ToldState c s (carried c s .state)
-    by-call (pointer m b) g = chosen (ToldReply (pointer m b) s) _ (so (silent (λ q. refl))) (so (silent (λ q. refl)))
+    by-call (pointer m b) g = by-pick (ToldReply (pointer m b) s) _ (so (silent (λ q. refl))) (so (silent (λ q. refl)))
     by-call auxiliary g = so (silent (λ q. refl))
     by-call (register m b) g = accessed-tells m b s g
     by-call (block m l) g =
-        chosen-if (λ (r : R.Moved). ToldState (block m l) s (r .state)) _ (λ w. block-written-tells m l s) (block-tells m l s g)
+        by-case (λ (r : R.Moved). ToldState (block m l) s (r .state)) _ (λ w. block-written-tells m l s) (block-tells m l s g)
     by-call (time n) g = passed-tells n s g
     by-call answer g = answered-tells s
     by-call (reselection lines) g = reselected-tells lines s g
@@ -142,4 +143,4 @@ pub status-read : (c : Call) (s : State) → readsAt 0x17 c s ≡ true → ReadT
 unfolding R.stepped R.accessedAt
 status-read c s e =
     let h : Reading 0x17 c s = reading 0x17 c s e in
-    rw (h .gives) (chosen (λ (r : Reply). ReadTold s (plain (R.stepped 0x17 r))) _ (blind refl refl refl) (readable (h .byte) s))
+    rw (h .gives) (by-pick (λ (r : Reply). ReadTold s (plain (R.stepped 0x17 r))) _ (blind refl refl refl) (readable (h .byte) s))

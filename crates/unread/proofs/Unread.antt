@@ -17,7 +17,8 @@ use Rattle.chip.specs.declared.Pending.{Pending}
 use Rattle.chip.specs.declared.Pending.the-variants.{Nothing, Interrupt, Ending, ReadOut}
 use Rattle.unread.specs.Status.{isReset, readsAt, raised}
 use Rattle.unread.specs.Unread.{UnreadStatusKept, CodeMovesOnlyByRaising}
-use Rattle.unread.proofs.Choosing.{by-test, clash, both-first, both-second}
+use Rattle.chip.proofs.Cases.{by-test, both-first, both-second}
+use Rattle.unread.proofs.Choosing.{clash}
 use Rattle.unread.proofs.Telling.{Standing, Tells, silent, moves, selects, settles, begins, raises, reads, resets}
 use Rattle.unread.proofs.Told.{told, reset-told}
 

@@ -1,15 +1,19 @@
--- How a proof goes through a choice of chip's. Generic; every walk over the definitions cites it.
+-- How a proof goes through a test or a choice. Generic: every walk over the definitions cites it.
 --   by-pick        what holds of both sides of a `pick` holds of it
 --   by-case        the same, each side with the test's value in hand
+--   by-test        what follows where a test holds, and where it does not, follows
+--   true-or-false  a test holds or it does not
 --   pick-ap        a function of a `pick` is a `pick` of its values
 --   both-first     where both tests hold, the first does
 --   both-second    and so does the second
 --   either-first   where neither test holds, the first does not
+--   either-rest    nor does the second
 --   either-second  where one of two holds and the first does not, the second does
 --   either-last    one of two holds where the second does
-use mathlib.Core.Path.{_≡_, refl}
-use mathlib.Core.Bool.{Bool, true, false}
+use mathlib.Core.Path.{_≡_, refl, sym}
+use mathlib.Core.Bool.{Bool, true, false, true≢false}
+use mathlib.Core.Logic.{_⊎_, inl, inr}
 use Rattle.chip.specs.Choice.{pick, both, either}
 
 pub by-pick : {A : Type 0} (P : A → Type 0) (t : Bool) {a b : A} → P a → P b → P (pick t a b)
 unfolding pick
@@ -20,6 +24,14 @@ pub by-case : {A : Type 0} (P : A → Type 0) (t : Bool) {a b : A} → (t ≡ tr
 unfolding pick
 by-case P true x y = x refl
 by-case P false x y = y refl
+
+pub by-test : {P : Type 0} (t : Bool) → (t ≡ true → P) → (t ≡ false → P) → P
+by-test true a b = a refl
+by-test false a b = b refl
+
+pub true-or-false : (t : Bool) → (t ≡ true) ⊎ (t ≡ false)
+true-or-false true = inl refl
+true-or-false false = inr refl
 
 pub pick-ap : {A B : Type 0} (f : A → B) (t : Bool) (a b : A) → f (pick t a b) ≡ pick t (f a) (f b)
 unfolding pick
@@ -41,6 +53,11 @@ pub either-first : (t u : Bool) → either t u ≡ false → t ≡ false
 unfolding either
 either-first true u e = e
 either-first false u e = refl
+
+pub either-rest : (t u : Bool) → either t u ≡ false → u ≡ false
+unfolding either
+either-rest true u e = absurd (true≢false e)
+either-rest false u e = e
 
 pub either-second : (t u : Bool) → either t u ≡ true → t ≡ false → u ≡ true
 unfolding either
