@@ -58,7 +58,7 @@ enum {
     AM33C93A_COMMAND_IGNORED = 5,     /* only LCI set */
     AM33C93A_RESELECTION_IGNORED = 6, /* nothing changed; not for us */
     AM33C93A_NO_DATA_NOW = 7,         /* value FFh; nothing changed; the Data register is not ready for this access */
-    AM33C93A_REPORTED = 8             /* the byte was not taken; offer it again when the host has served the interrupt */
+    AM33C93A_REPORTED = 8             /* the byte was not taken; offer it again when the host has acted: served the interrupt, or filled the FIFO */
 };
 
 /* Auxiliary status. */
