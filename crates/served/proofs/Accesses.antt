@@ -3,7 +3,7 @@
 --   put-done, get-done                 pointer and access together
 --   wait-at, Attends, attend           an access is due, and with it made the Target is brought on
 --   at-once                            it is brought on already
-use mathlib.Core.Path.{_≡_, refl, sym, _∙_, ap, subst}
+use mathlib.Core.Path.{_≡_, refl, sym, subst}
 use mathlib.Core.Bool.{Bool, true, false}
 use mathlib.Core.List.{List, [], _∷_, _++_}
 use Prim.Native.Nat.{ℕ, _<_}

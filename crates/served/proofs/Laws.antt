@@ -1,17 +1,16 @@
 -- The third demand of the chip's step.
 --   demand   for every earlier life of the controller, every job, and every schedule of each host
 use mathlib.Core.Path.{_≡_, refl, sym, _∙_, ap, subst}
-use mathlib.Core.Bool.{Bool, true, false}
+use mathlib.Core.Bool.{true, false}
 use mathlib.Core.List.{List, [], _∷_, _++_, append-nil}
 use mathlib.Core.Logic.{_⊎_, inl, inr, ⊎-elim}
-use Prim.Native.Nat.{ℕ, suc, _+_, _-_, _/_, _%_, _≤_, _<_}
+use Prim.Native.Nat.{ℕ, _+_, _-_, _/_, _%_, _≤_}
 use native.Mathlib.Omega.{arith}
-use lib.Dec.{eqb}
 use lib.ListN.{length}
 use borrow.Author.Tests.{eq-eqb}
 use Rattle.chip.specs.Choice.{pick}
 use Rattle.chip.specs.Phases.{phaseNumber, comesIn}
-use Rattle.chip.specs.Calls.{Call, step}
+use Rattle.chip.specs.Calls.{step}
 use Rattle.chip.specs.State.{fresh}
 use Rattle.chip.specs.declared.State.{State}
 use Rattle.chip.specs.declared.Pending.the-variants.{Nothing}
@@ -19,16 +18,15 @@ use Rattle.chip.specs.declared.Running.the-variants.{Idle}
 use Rattle.chip.specs.declared.Connection.the-variants.{Disconnected}
 use Rattle.chip.specs.declared.Phase.{Phase}
 use Rattle.chip.specs.declared.Phase.the-variants.{DataOut, DataIn, CommandOut, StatusIn, MessageOut, MessageIn}
-use Rattle.image.specs.Ok.{Bytes}
-use Rattle.story.specs.Story.{Item, item, items, Way, inward, outward, wayPhase, Job, loaded, identifies, close, story, Proper}
-use Rattle.story.specs.Hosts.{Note, Host, sentBy, starting, byTransfer, byPhases}
-use Rattle.story.specs.Schedule.{calling, away, Target, Scene, Move, moves}
-use Rattle.story.specs.Demand.{Start, InTime, bytesOf, notesAt, dataHeld, statusHeld, countHeld, countBytes, incomingData, lived, opening, Finished, Promise, Same, sceneA, sceneB, Demand3, Demand}
-use Rattle.served.proofs.Parts.{theRegisters, theStatus, theTransfer, theWire, theState, theHost, theTarget, theScene, before}
+use Rattle.story.specs.Story.{Item, item, items, Way, inward, outward, wayPhase, Job, loaded, story, Proper}
+use Rattle.story.specs.Hosts.{Note, Host, sentBy, byTransfer, byPhases}
+use Rattle.story.specs.Schedule.{calling, Scene, Move}
+use Rattle.story.specs.Demand.{InTime, bytesOf, notesAt, statusHeld, countHeld, countBytes, incomingData, lived, opening, Promise, sceneA, sceneB, Demand3, Demand}
+use Rattle.served.proofs.Parts.{theStatus, theTransfer, theWire, theState, theHost, theTarget, theScene, before}
 use Rattle.served.proofs.Small.{no-bytes}
 use Rattle.served.proofs.Start.{Apart, apart, transfer-plays, phases-plays}
-use Rattle.served.proofs.Phases.{segsOf, segs, told, good, notes-some, notes-none, bytes-append}
-use Rattle.served.proofs.PhaseScenes.{flat, ins, notesAfter, countNotes, begins}
+use Rattle.served.proofs.Phases.{segsOf, segs, told, good, notes-some, bytes-append}
+use Rattle.served.proofs.PhaseScenes.{flat, ins, notesAfter, begins}
 use Rattle.served.proofs.PhaseScenes as B
 use Rattle.served.proofs.PhaseServes as BS
 use Rattle.served.proofs.PhasePromise as BP

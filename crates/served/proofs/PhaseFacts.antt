@@ -6,13 +6,11 @@
 use mathlib.Core.Path.{_≡_, refl, sym, _∙_, ap, subst}
 use mathlib.Core.Bool.{Bool, true, false}
 use mathlib.Core.List.{List, [], _∷_, _++_, append-assoc, append-nil}
-use mathlib.Core.Logic.{_⊎_, inl, inr, ⊎-elim}
-use Prim.Native.Nat.{ℕ, suc, _+_, _-_, _*_, _/_, _%_, _≤_, _<_}
+use Prim.Native.Nat.{ℕ, _+_, _*_, _/_, _%_, _<_}
 use native.Mathlib.Omega.{arith}
 use native.Mathlib.Nat.{zero-add}
 use lib.Dec.{ltb, eqb}
-use lib.ListN.{length, length-append}
-use borrow.Author.Tests.{lt-ltb, le-ltb, eq-eqb, ltb-true}
+use borrow.Author.Tests.{lt-ltb, eq-eqb}
 use Rattle.chip.specs.Choice.{pick}
 use Rattle.chip.specs.Lines.{isOn}
 use Rattle.chip.specs.Phases.{phaseNumber, phaseOf, comesIn}
@@ -20,12 +18,11 @@ use Rattle.chip.specs.Registers.{registerAt, highWritten, middleWritten, lowWri
 use Rattle.chip.specs.declared.Registers.{Registers}
 use Rattle.chip.specs.declared.Phase.{Phase}
 use Rattle.chip.specs.declared.Phase.the-variants.{DataOut, DataIn, CommandOut, StatusIn, UnspecifiedOut, UnspecifiedIn, MessageOut, MessageIn}
-use Rattle.image.specs.Ok.{Bytes}
 use Rattle.story.specs.Story.{Item, item, items, Job}
-use Rattle.story.specs.Hosts.{Access, put, Note, Host, planned, countPuts, leftGets, countFor, serving, phasesHeard}
-use Rattle.served.proofs.Parts.{theRegisters, storedIn, Plays, over, puts, gets}
+use Rattle.story.specs.Hosts.{put, Note, Host, planned, countPuts, leftGets, countFor, serving, phasesHeard}
+use Rattle.served.proofs.Parts.{storedIn, Plays, over, puts, gets}
 use Rattle.served.proofs.Small.{items-snoc}
-use Rattle.served.proofs.PhaseScenes.{Seg, seg, ins, notesOf, notesAfter, Names, asked, Fits, Good, last, more, Tale, Heard, Noting, Counted}
+use Rattle.served.proofs.PhaseScenes.{Seg, seg, ins, notesOf, notesAfter, Names, asked, Good, last, more, Tale, Heard, Noting, Counted}
 use Rattle.served.proofs.PhaseScenes as S
 
 pub phase-round : (p : Phase) → phaseOf (phaseNumber p) ≡ p

@@ -2,7 +2,6 @@
 --   held    with the bus free: what crossed is the story, and the host has read what came in and noted the count left
 --   after-moves   every schedule leads to such a scene
 use mathlib.Core.Path.{_≡_, refl, sym, _∙_, ap}
-use mathlib.Core.Bool.{Bool, true, false}
 use mathlib.Core.List.{List, [], _∷_, _++_, append-nil}
 use Prim.Native.Nat.{ℕ}
 use native.Mathlib.Omega.{arith}
@@ -12,7 +11,7 @@ use Rattle.chip.specs.declared.Phase.the-variants.{DataIn}
 use Rattle.story.specs.Story.{Item, Job}
 use Rattle.story.specs.Hosts.{Note, byPhases}
 use Rattle.story.specs.Schedule.{away, talking, calling, Place, Scene, Move, offer, pass, work, moves, move}
-use Rattle.served.proofs.PhaseScenes.{ins, Begins, Sends, Takes, Closes, Drains, Ends, Reach, begins, sending, taking, closing, draining, ends, loads, seeks, greets, waits, named, sends, takes, closes, drains, pauses, paused, calm, gone, rests}
+use Rattle.served.proofs.PhaseScenes.{ins, Reach, begins, sending, taking, closing, draining, ends, loads, seeks, greets, waits, named, sends, takes, closes, drains, pauses, paused, calm, gone, rests}
 use Rattle.served.proofs.PhaseScenes as S
 use Rattle.served.proofs.PhaseSteps.{bus-step, pass-step, work-step}
 

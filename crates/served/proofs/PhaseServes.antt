@@ -1,26 +1,23 @@
 -- The demand for the host that serves phase by phase, from every scene that can be reached.
 --   brought   the Target is brought on
 --   serves    the promise, after every schedule, where the phases are the story
-use mathlib.Core.Path.{_≡_, refl, sym, _∙_, ap, subst}
+use mathlib.Core.Path.{_≡_, refl}
 use mathlib.Core.Bool.{Bool, true, false}
-use mathlib.Core.List.{List, [], _∷_, _++_, append-assoc, append-nil}
-use mathlib.Core.Logic.{_⊎_, inl, inr, ⊎-elim}
-use Prim.Native.Nat.{ℕ, suc, _+_, _-_, _/_, _%_, _≤_, _<_}
+use mathlib.Core.List.{List, [], _∷_, _++_}
+use mathlib.Core.Logic.{⊎-elim}
+use Prim.Native.Nat.{ℕ, suc, _+_, _<_}
 use native.Mathlib.Omega.{arith}
-use lib.Dec.{ltb, leb, eqb}
-use lib.ListN.{length, length-append}
-use borrow.Author.Tests.{lt-ltb, le-ltb, eq-eqb, ne-eqb, lt-leb, ltb-true}
+use lib.Dec.{ltb, eqb}
+use lib.ListN.{length}
+use borrow.Author.Tests.{lt-ltb, ne-eqb}
 use Rattle.chip.proofs.Cases.{true-or-false}
-use Rattle.chip.specs.Choice.{pick}
 use Rattle.chip.specs.Calls.{step}
-use Rattle.chip.specs.Lines.{packed}
-use Rattle.chip.specs.Phases.{phaseNumber, comesIn, isMessageIn, samePhase}
+use Rattle.chip.specs.Phases.{comesIn, isMessageIn}
 use Rattle.chip.specs.declared.Registers.{Registers}
-use Rattle.chip.specs.declared.Status.{Status}
 use Rattle.chip.specs.declared.Transfer.{Transfer}
 use Rattle.chip.specs.declared.Fifo.{Fifo}
 use Rattle.chip.specs.declared.Identity.{Identity}
-use Rattle.chip.specs.declared.Connection.the-variants.{Disconnected, Selecting, Connected}
+use Rattle.chip.specs.declared.Connection.the-variants.{Disconnected, Connected}
 use Rattle.chip.specs.declared.Running.the-variants.{Idle, TransferInfo}
 use Rattle.chip.specs.declared.Pending.the-variants.{Nothing, Interrupt, Ending}
 use Rattle.chip.specs.declared.Direction.{Direction}
@@ -28,23 +25,22 @@ use Rattle.chip.specs.declared.Direction.the-variants.{In, Out}
 use Rattle.chip.specs.declared.Noted.{Noted}
 use Rattle.chip.specs.declared.Noted.the-variants.{NoPhase, Was}
 use Rattle.chip.specs.declared.Phase.{Phase}
-use Rattle.chip.specs.declared.Phase.the-variants.{DataOut, DataIn, CommandOut, StatusIn, UnspecifiedOut, UnspecifiedIn, MessageOut, MessageIn}
-use Rattle.image.specs.Ok.{Bytes}
-use Rattle.story.specs.Story.{Item, item, items, Job}
-use Rattle.story.specs.Hosts.{Access, put, Note, Host, asked, countFor, giveFor, serving, byPhases}
-use Rattle.story.specs.Schedule.{calling, talking, away, Scene, bus, due, attended, isNone, onward, Brought, now, later, Move, offer, pass, work, moves, move}
+use Rattle.chip.specs.declared.Phase.the-variants.{MessageOut, MessageIn}
+use Rattle.story.specs.Story.{Item, item, Job}
+use Rattle.story.specs.Hosts.{Access, put, Note, Host, giveFor, serving, byPhases}
+use Rattle.story.specs.Schedule.{calling, talking, away, Scene, bus, Brought, now}
 use Rattle.story.proofs.Opening.{scenes}
 use Rattle.served.proofs.Opening.{steps}
-use Rattle.served.proofs.Parts.{theRegisters, theStatus, theTransfer, theWire, theState, theHost, theTarget, theScene, Plays, over, puts, gets, Aimed, Polled, coded, taken, sent, Polls, look, seen, ready}
+use Rattle.served.proofs.Parts.{theRegisters, theStatus, theTransfer, theWire, theState, theHost, theTarget, theScene, Plays, over, puts, gets}
 use Rattle.served.proofs.Queue.{Lined, none-lined, empty-none, empty-some, room-is, waits-is, front-is, fits, popped, pushed}
 use Rattle.served.proofs.Small.{asked-is, Quiet, unfixed, drained}
 use Rattle.served.proofs.Accesses.{put-done, get-done, wait-at, at-once, Attends, attend, attend-at, bus-idle, none-left}
 use Rattle.served.proofs.Going.{Going, owed-out}
 use Rattle.served.proofs.Polling.{any-poll}
 use Rattle.served.proofs.PhaseFacts.{phase-round, phase-small, same-phase, shown-byte, single-info, heard-11, heard-20, heard-85, heard-named, good-byte, noting-on, plays-phase}
-use Rattle.served.proofs.PhaseScenes.{Seg, seg, flat, ins, notesOf, notesAfter, Names, Fits, Good, last, more, After, next, Tale, Heard, Noting, Ready, Counted, polls, Begins, Sends, Takes, Closes, Drains, Ends, Reach, begins, sending, taking, closing, draining, ends, loads, seeks, greets, waits, named, sends, takes, closes, drains, pauses, paused, calm, gone, rests}
+use Rattle.served.proofs.PhaseScenes.{Seg, seg, flat, notesOf, notesAfter, Names, Good, last, more, After, next, Noting, Ready, Counted, polls, Begins, Sends, Takes, Closes, Drains, Ends, Reach, begins, sending, taking, closing, draining, ends, loads, seeks, greets, waits, named, sends, takes, closes, drains, pauses, paused, calm, gone, rests}
 use Rattle.served.proofs.PhaseScenes as S
-use Rattle.served.proofs.PhaseSteps.{bus-step, pass-step, work-step, good-small}
+use Rattle.served.proofs.PhaseSteps.{good-small}
 
 module _ (j : Job) (whole : List Item) (total : List Note) where
   abbrev B : Scene → Type 0

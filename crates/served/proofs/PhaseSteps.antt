@@ -1,38 +1,32 @@
 -- With the host that serves phase by phase, each move leads from a scene that can be reached to one that can.
 --   bus-step, pass-step, work-step   a move of the Target, units of time, a call of the host
-use mathlib.Core.Path.{_≡_, refl, sym, _∙_, ap, subst}
-use mathlib.Core.Bool.{Bool, true, false, true≢false, false≢true}
-use mathlib.Core.List.{List, [], _∷_, _++_, append-assoc, append-nil}
-use mathlib.Core.Logic.{_⊎_, inl, inr, ⊎-elim}
-use Prim.Native.Nat.{ℕ, suc, _+_, _-_, _≤_, _<_}
+use mathlib.Core.Path.{_≡_, refl, sym, _∙_, subst}
+use mathlib.Core.Bool.{false, true≢false, false≢true}
+use mathlib.Core.List.{List, [], _∷_, _++_}
+use mathlib.Core.Logic.{⊎-elim}
+use Prim.Native.Nat.{ℕ, suc, _+_, _<_}
 use native.Mathlib.Omega.{arith}
-use lib.Dec.{ltb, leb, eqb}
-use lib.ListN.{length, length-append}
-use borrow.Author.Tests.{lt-ltb, le-ltb, eq-eqb, ne-eqb, lt-leb, ltb-true}
+use lib.Dec.{ltb, eqb}
+use lib.ListN.{length}
+use borrow.Author.Tests.{lt-ltb, eq-eqb, ne-eqb, lt-leb, ltb-true}
 use Rattle.chip.proofs.Cases.{true-or-false}
-use Rattle.chip.specs.Choice.{pick, both}
-use Rattle.chip.specs.Fifo.{hasRoom}
-use Rattle.chip.specs.Fifo as F
 use Rattle.chip.specs.Calls.{step}
-use Rattle.chip.specs.Phases.{phaseNumber, comesIn}
+use Rattle.chip.specs.Phases.{comesIn}
 use Rattle.chip.specs.declared.State.{State}
-use Rattle.chip.specs.declared.Registers.{Registers}
-use Rattle.chip.specs.declared.Fifo.{Fifo}
 use Rattle.chip.specs.declared.Connection.{Connection}
 use Rattle.chip.specs.declared.Phase.{Phase}
 use Rattle.chip.specs.declared.Phase.the-variants.{MessageIn}
-use Rattle.image.specs.Ok.{Bytes}
-use Rattle.story.specs.Story.{Item, item, items, Job}
-use Rattle.story.specs.Hosts.{Access, Note, Host, countFor, giveFor, serving, byPhases}
+use Rattle.story.specs.Story.{Item, Job}
+use Rattle.story.specs.Hosts.{Note, Host, countFor, giveFor, serving, byPhases}
 use Rattle.story.specs.Schedule.{Target, Scene, bus, access, passing}
 use Rattle.served.proofs.Opening.{steps}
-use Rattle.served.proofs.Time.{isSelecting, still, Spared, spare-on, spare-less, spared-at}
-use Rattle.served.proofs.Going.{Going, one-out, owed-out, sending-can, one-more}
-use Rattle.served.proofs.Parts.{theScene, Aimed, before, aimed, Polled, coded, taken, sent, Polls, look, seen, ready, Plays, over, puts, gets, stored-is}
-use Rattle.served.proofs.Queue.{Lined, none-lined, empty-none, empty-some, room-is, waits-is, front-is, popped, pushed}
-use Rattle.served.proofs.Small.{one-less, bytes-tail, tail-bytes, next-byte, no-bytes, no-code, polls-look, polls-quiet, polls-drained, polls-up, small-address, canSend, some-snoc, waiting-some, can-pop, can-room, can-not, can-now, Quiet, unfixed, drained}
+use Rattle.served.proofs.Time.{isSelecting, still, spare-on, spare-less, spared-at}
+use Rattle.served.proofs.Going.{one-out, owed-out, sending-can, one-more}
+use Rattle.served.proofs.Parts.{theScene, before, aimed, coded, taken, sent, look, seen, ready, over, puts, gets, stored-is}
+use Rattle.served.proofs.Queue.{none-lined, empty-none, empty-some, room-is, waits-is, front-is, popped, pushed}
+use Rattle.served.proofs.Small.{one-less, bytes-tail, tail-bytes, next-byte, no-bytes, no-code, polls-look, polls-quiet, polls-drained, polls-up, small-address, some-snoc, waiting-some, can-pop, can-room, can-not, unfixed, drained}
 use Rattle.served.proofs.PhaseFacts.{phase-round, phase-small, same-phase, shown-byte, single-info, heard-11, heard-20, heard-85, heard-named, onto, heard-out, heard-in, heard-read, heard-at, good-byte, noting-on, plays-phase}
-use Rattle.served.proofs.PhaseScenes.{Seg, seg, flat, notesOf, notesAfter, Names, asked, Fits, Good, last, more, After, next, Tale, Heard, Noting, Ready, Counted, Late, polls, Begins, Sends, Takes, Closes, Drains, Ends, Reach, begins, sending, taking, closing, draining, ends, loads, seeks, greets, waits, named, sends, takes, closes, drains, pauses, paused, calm, gone, rests}
+use Rattle.served.proofs.PhaseScenes.{Seg, seg, asked, Good, last, more, next, polls, Begins, Sends, Takes, Closes, Drains, Ends, Reach, begins, sending, taking, closing, draining, ends, loads, seeks, greets, waits, named, sends, takes, closes, drains, pauses, paused, calm, gone, rests}
 use Rattle.served.proofs.PhaseScenes as S
 
 module _ (j : Job) (whole : List Item) (total : List Note) where

@@ -3,18 +3,18 @@
 --   good, told   they fit the host's counts and bytes, and they are the story
 --   notes-some   with data, the host notes the count left
 use mathlib.Core.Path.{_≡_, refl, sym, _∙_, ap, subst}
-use mathlib.Core.Bool.{Bool, true, false, true≢false, false≢true}
+use mathlib.Core.Bool.{Bool, true, false, true≢false}
 use mathlib.Core.List.{List, [], _∷_, _++_, append-nil}
 use Prim.Native.Nat.{ℕ, zero, suc, _+_, _%_, _*_, _<_}
 use native.Mathlib.Omega.{arith}
-use lib.ListN.{length, length-append, getD}
+use lib.ListN.{length, getD}
 use Rattle.chip.specs.Lines.{identify, bit}
-use Rattle.chip.specs.Phases.{comesIn, isMessageIn, samePhase}
+use Rattle.chip.specs.Phases.{isMessageIn, samePhase}
 use Rattle.chip.specs.declared.Phase.{Phase}
-use Rattle.chip.specs.declared.Phase.the-variants.{DataOut, DataIn, CommandOut, StatusIn, MessageOut, MessageIn}
+use Rattle.chip.specs.declared.Phase.the-variants.{CommandOut, StatusIn, MessageOut, MessageIn}
 use Rattle.image.specs.Ok.{Bytes}
-use Rattle.story.specs.Story.{Item, item, items, Way, inward, outward, wayPhase, Job, loaded, identifies, close, story, Proper}
-use Rattle.story.specs.Hosts.{Note, countFor, giveFor}
+use Rattle.story.specs.Story.{Item, item, items, Way, inward, outward, wayPhase, Job, identifies, close, story, Proper}
+use Rattle.story.specs.Hosts.{Note}
 use Rattle.served.proofs.Small.{no-bytes, bytes-tail}
 use Rattle.served.proofs.Stages.{size-small}
 use Rattle.served.proofs.PhaseScenes.{Seg, seg, flat, notesAfter, countNotes, Fits, Good, last, more}

@@ -8,7 +8,7 @@ use Rattle.chip.specs.Calls.{step}
 use Rattle.chip.specs.declared.State.{State}
 use Rattle.chip.specs.declared.Phase.{Phase}
 use Rattle.story.specs.Story.{Item, item}
-use Rattle.story.specs.Hosts.{Access, code, take, send, Note, Program}
+use Rattle.story.specs.Hosts.{Access, Note, Program}
 use Rattle.story.specs.Schedule.{Place, calling, talking, away, Brought, now, later}
 use Rattle.story.proofs.Opening.{scenes}
 use Rattle.served.proofs.Parts.{theHost, theTarget, theScene, Polled, coded, taken, sent, Polls, look, seen, ready}

@@ -2,15 +2,15 @@
 --   Lined      the bytes that wait in q are l, the oldest first
 --   none-lined, popped, pushed              it stays so
 --   empty-none, empty-some, room-is, waits-is, front-is   what the FIFO's tests come to
-use mathlib.Core.Path.{_≡_, refl, sym, _∙_, ap}
-use mathlib.Core.Bool.{Bool, true, false}
+use mathlib.Core.Path.{_≡_, refl, sym}
+use mathlib.Core.Bool.{true, false}
 use mathlib.Core.List.{List, [], _∷_, _++_, append-assoc}
-use Prim.Native.Nat.{ℕ, suc, _+_, _-_, _<_, _≤_}
+use Prim.Native.Nat.{ℕ, suc, _+_, _<_, _≤_}
 use native.Mathlib.Omega.{arith}
-use lib.Dec.{eqb, ltb}
-use lib.ListN.{length, getD, drop, set, replicate, length-append}
+use lib.Dec.{ltb}
+use lib.ListN.{length, set, replicate, length-append}
 use lib.Seq.{set-append-seam}
-use borrow.Author.Tests.{lt-ltb, le-ltb, eq-eqb, ne-eqb}
+use borrow.Author.Tests.{lt-ltb, ne-eqb}
 use Rattle.chip.specs.Choice.{pick}
 use Rattle.chip.specs.State.{empty}
 use Rattle.chip.specs.Fifo.{isEmpty, hasRoom, front, pop, push, waits}

@@ -3,27 +3,26 @@
 --   polls-look, small-address          the host's next access after a look, and that its address is one
 --   Quiet                              the Data register has nothing to move
 --   bytes-tail, next-byte              the bytes that a host sends are bytes
-use mathlib.Core.Path.{_≡_, refl, sym, _∙_, ap, subst}
+use mathlib.Core.Path.{_≡_, refl, ap, subst}
 use mathlib.Core.Bool.{Bool, true, false, not, false≢true}
 use mathlib.Core.List.{List, [], _∷_, _++_}
-use mathlib.Core.Logic.{_⊎_, inl, inr}
-use Prim.Native.Nat.{ℕ, suc, _+_, _-_, _<_, _≤_}
+use Prim.Native.Nat.{ℕ, suc, _+_, _-_, _<_}
 use native.Mathlib.Omega.{arith}
-use lib.Dec.{eqb, ltb, leb}
+use lib.Dec.{ltb}
 use lib.ListN.{length, length-append}
-use borrow.Author.Tests.{lt-ltb, le-ltb, ne-eqb, ltb-true}
+use borrow.Author.Tests.{lt-ltb, ltb-true}
 use Rattle.chip.proofs.Cases.{both-first, both-second}
-use Rattle.chip.specs.Choice.{pick, both, either}
+use Rattle.chip.specs.Choice.{pick, both}
 use Rattle.chip.specs.Phases.{comesIn}
-use Rattle.chip.specs.Lines.{isOn, packed, bit}
+use Rattle.chip.specs.Lines.{isOn, packed}
 use Rattle.chip.specs.Fifo.{isEmpty}
 use Rattle.chip.specs.declared.Fifo.{Fifo}
 use Rattle.chip.specs.declared.Phase.{Phase}
 use Rattle.chip.specs.declared.Direction.{Direction}
-use Rattle.chip.specs.declared.Direction.the-variants.{Unfixed, In, Out}
+use Rattle.chip.specs.declared.Direction.the-variants.{Unfixed, In}
 use Rattle.image.specs.Ok.{Bytes}
 use Rattle.story.specs.Story.{Item, item, items}
-use Rattle.story.specs.Hosts.{Access, code, take, send, addressOf, askedBy, asked, nextByte, tail}
+use Rattle.story.specs.Hosts.{Access, take, send, addressOf, askedBy, asked, nextByte, tail}
 use Rattle.served.proofs.Queue.{Lined, empty-none}
 use Rattle.served.proofs.Parts.{Polled, coded, taken, sent, Polls, look, seen, ready}
 

@@ -1,15 +1,14 @@
 -- What the command phase register stands for on the way through a command.
 --   stage-identify, stage-next, stage-full, stage-data, stage-status   at 10h, while command bytes are taken, at the size, 46h, 50h
 --   size-small     a command has at most 12 bytes
-use mathlib.Core.Path.{_≡_, refl, sym, _∙_, ap}
+use mathlib.Core.Path.{_≡_, refl, _∙_}
 use mathlib.Core.Bool.{Bool, true, false}
 use Prim.Native.Nat.{ℕ, suc, _+_, _-_, _/_, _≤_, _<_}
 use native.Mathlib.Omega.{arith}
-use lib.Dec.{eqb, ltb}
+use lib.Dec.{eqb}
 use borrow.Author.Tests.{lt-ltb, le-ltb, eq-eqb, ne-eqb, eqb-true}
 use Rattle.chip.specs.Choice.{pick, both}
 use Rattle.chip.specs.SelectAndTransfer.{sizeOf, firstStage, nextStage, isCommandPhase, stageOf}
-use Rattle.chip.specs.declared.Stage.{Stage}
 use Rattle.chip.specs.declared.Stage.the-variants.{SendIdentify, SendCommand, Body, AfterData, AfterStatus}
 use Rattle.served.proofs.TransferScenes.{CommandPhase, first, later, Expects, body, late}
 

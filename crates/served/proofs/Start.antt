@@ -3,12 +3,11 @@
 --   apart      of every state reached
 --   transfer-plays, phases-plays   what each host loads leads to its goal
 use mathlib.Core.Path.{_≡_, refl, sym, _∙_, ap, subst}
-use mathlib.Core.Bool.{Bool, true, false, true≢false, false≢true}
+use mathlib.Core.Bool.{Bool, true, false, true≢false}
 use mathlib.Core.List.{List, [], _∷_, _++_, append-assoc, append-nil}
 use Prim.Native.Nat.{ℕ, suc, _+_, _-_, _*_, _/_, _%_, _≤_, _<_}
 use native.Mathlib.Omega.{arith}
-use lib.Dec.{eqb, ltb}
-use lib.ListN.{length, set, getD, length-append}
+use lib.ListN.{length, set, getD}
 use lib.Seq.{set-append-seam}
 use borrow.Author.Tests.{lt-ltb, ne-eqb}
 use Rattle.chip.specs.Choice.{pick, either}
@@ -30,7 +29,7 @@ use Rattle.chip.specs.declared.Pending.the-variants.{Nothing, Interrupt, Ending
 use Rattle.chip.specs.declared.Direction.{Direction}
 use Rattle.chip.specs.declared.Direction.the-variants.{Unfixed, In, Out}
 use Rattle.image.specs.Ok.{Bytes}
-use Rattle.reached.specs.Sound.{Sound, Shape, Selects, six, seven, eight, nine, Transfers, with-atn, without-atn, Moves, transfer, info, isOutgoing, Placed, joined}
+use Rattle.reached.specs.Sound.{Sound, Shape, with-atn, without-atn, transfer, info, isOutgoing, joined}
 use Rattle.reached.specs.Sound as Sound
 use Rattle.reached.proofs.Laws.{reached}
 use Rattle.story.specs.Story.{Item, Job, loaded, Proper}

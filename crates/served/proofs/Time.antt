@@ -16,7 +16,7 @@ use Rattle.chip.specs.declared.State.{State}
 use Rattle.chip.specs.declared.Connection.{Connection}
 use Rattle.chip.specs.declared.Connection.the-variants.{Disconnected, Selecting, Waiting, Connected}
 use Rattle.story.specs.Hosts.{Host, Program}
-use Rattle.story.specs.Schedule.{Target, Scene, passing, passingBy, elapsing}
+use Rattle.story.specs.Schedule.{Target, passing, passingBy, elapsing}
 use Rattle.served.proofs.Parts.{theScene}
 use Rattle.chip.proofs.Cases.{true-or-false}
 

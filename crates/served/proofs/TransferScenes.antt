@@ -7,33 +7,28 @@
 use mathlib.Core.Path.{_≡_}
 use mathlib.Core.Bool.{Bool, true, false}
 use mathlib.Core.List.{List, [], _∷_, _++_}
-use mathlib.Core.Logic.{_⊎_}
-use Prim.Native.Nat.{ℕ, suc, _+_, _/_, _%_, _≤_, _<_}
+use Prim.Native.Nat.{ℕ, suc, _+_, _/_, _%_}
 use lib.ListN.{length, getD}
 use Rattle.chip.specs.State.{empty}
 use Rattle.chip.specs.Lines.{isOn}
-use Rattle.chip.specs.Fifo.{isEmpty}
 use Rattle.chip.specs.SelectAndTransfer.{sizeOf, stageOf}
 use Rattle.chip.specs.declared.Registers.{Registers}
 use Rattle.chip.specs.declared.Fifo.{Fifo}
 use Rattle.chip.specs.declared.Identity.{Identity}
-use Rattle.chip.specs.declared.Stage.{Stage}
 use Rattle.chip.specs.declared.Stage.the-variants.{Body, AfterData}
 use Rattle.chip.specs.declared.Connection.the-variants.{Disconnected, Selecting, Connected}
 use Rattle.chip.specs.declared.Running.the-variants.{Idle, TransferWithAtn}
-use Rattle.chip.specs.declared.Pending.{Pending}
 use Rattle.chip.specs.declared.Pending.the-variants.{Nothing, Interrupt, Ending}
 use Rattle.chip.specs.declared.Direction.{Direction}
 use Rattle.chip.specs.declared.Direction.the-variants.{Unfixed, In, Out}
 use Rattle.chip.specs.declared.Noted.{Noted}
-use Rattle.chip.specs.declared.Noted.the-variants.{NoPhase, Was}
 use Rattle.chip.specs.declared.Phase.{Phase}
-use Rattle.chip.specs.declared.Phase.the-variants.{DataOut, DataIn, CommandOut, StatusIn, MessageOut, MessageIn}
+use Rattle.chip.specs.declared.Phase.the-variants.{DataOut, DataIn, CommandOut, MessageOut, MessageIn}
 use Rattle.image.specs.Ok.{Bytes}
 use Rattle.story.specs.Story.{Item, item, items, Way, inward, outward, wayPhase, Job, loaded, identifies, close, story}
 use Rattle.story.specs.Hosts.{Access, put, Note, note}
 use Rattle.story.specs.Schedule.{calling, talking, away, Scene}
-use Rattle.story.specs.Demand.{incomingData, countBytes}
+use Rattle.story.specs.Demand.{incomingData}
 use Rattle.served.proofs.Parts.{theRegisters, theStatus, theTransfer, theWire, theState, theHost, theTarget, theScene, Aimed, Polls, Plays}
 use Rattle.served.proofs.Time.{Spared}
 use Rattle.served.proofs.Going.{Going}

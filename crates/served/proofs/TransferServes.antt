@@ -1,15 +1,15 @@
 -- The demand for the host that serves by one Select-And-Transfer, from every scene that can be reached.
 --   brought   the Target is brought on
 --   serves    the promise, after every schedule
-use mathlib.Core.Path.{_≡_, refl, sym, _∙_, ap, subst}
+use mathlib.Core.Path.{_≡_, refl, sym, _∙_, ap}
 use mathlib.Core.Bool.{Bool, true, false}
-use mathlib.Core.List.{List, [], _∷_, _++_, append-assoc, append-nil}
-use mathlib.Core.Logic.{_⊎_, inl, inr, ⊎-elim}
-use Prim.Native.Nat.{ℕ, suc, _+_, _-_, _/_, _%_, _≤_, _<_}
+use mathlib.Core.List.{List, [], _∷_, _++_, append-nil}
+use mathlib.Core.Logic.{⊎-elim}
+use Prim.Native.Nat.{ℕ, suc, _+_, _-_, _<_}
 use native.Mathlib.Omega.{arith}
-use lib.Dec.{ltb, leb, eqb}
-use lib.ListN.{length, getD, length-append}
-use borrow.Author.Tests.{lt-ltb, le-ltb, eq-eqb, ne-eqb, lt-leb, ltb-true, ltb-false}
+use lib.Dec.{ltb}
+use lib.ListN.{length, getD}
+use borrow.Author.Tests.{lt-ltb, eq-eqb, ne-eqb}
 use Rattle.chip.proofs.Cases.{true-or-false}
 use Rattle.chip.specs.Choice.{pick}
 use Rattle.chip.specs.State.{empty}
@@ -19,13 +19,10 @@ use Rattle.chip.specs.Lines.{packed}
 use Rattle.chip.specs.SelectAndTransfer.{sizeOf, stageOf}
 use Rattle.chip.specs.declared.Registers.{Registers}
 use Rattle.chip.specs.declared.Stage.the-variants.{Body}
-use Rattle.chip.specs.declared.Status.{Status}
-use Rattle.chip.specs.declared.Transfer.{Transfer}
 use Rattle.chip.specs.declared.Fifo.{Fifo}
 use Rattle.chip.specs.declared.Identity.{Identity}
-use Rattle.chip.specs.declared.Connection.the-variants.{Disconnected, Selecting, Connected}
+use Rattle.chip.specs.declared.Connection.the-variants.{Disconnected, Connected}
 use Rattle.chip.specs.declared.Running.the-variants.{Idle, TransferWithAtn}
-use Rattle.chip.specs.declared.Pending.{Pending}
 use Rattle.chip.specs.declared.Pending.the-variants.{Nothing, Interrupt, Ending}
 use Rattle.chip.specs.declared.Direction.{Direction}
 use Rattle.chip.specs.declared.Direction.the-variants.{Unfixed, In, Out}
@@ -33,21 +30,21 @@ use Rattle.chip.specs.declared.Noted.{Noted}
 use Rattle.chip.specs.declared.Phase.{Phase}
 use Rattle.chip.specs.declared.Phase.the-variants.{DataOut, DataIn, CommandOut, StatusIn}
 use Rattle.image.specs.Ok.{Bytes}
-use Rattle.story.specs.Story.{Item, item, items, Way, inward, outward, wayPhase, Job, loaded, close, story, Proper}
+use Rattle.story.specs.Story.{Item, item, items, Way, wayPhase, Job, loaded, close, story, Proper}
 use Rattle.story.specs.Hosts.{Access, put, Note, Host, asked, byTransfer}
-use Rattle.story.specs.Schedule.{calling, talking, away, Scene, bus, due, attended, isNone, onward, Brought, now, later, Move, offer, pass, work, moves, move}
-use Rattle.story.specs.Demand.{bytesOf, dataHeld, statusHeld, countHeld, countBytes, incomingData, Finished, Promise}
+use Rattle.story.specs.Schedule.{calling, talking, away, Scene, bus, Brought, now, Move, offer, pass, work, moves, move}
+use Rattle.story.specs.Demand.{bytesOf, statusHeld, countHeld, countBytes, incomingData, Finished, Promise}
 use Rattle.story.proofs.Opening.{scenes}
 use Rattle.served.proofs.Opening.{steps}
-use Rattle.served.proofs.Parts.{theRegisters, theStatus, theTransfer, theWire, theState, theHost, theTarget, theScene, Plays, over, puts, gets, Aimed, before, aimed, Polled, coded, taken, sent, Polls, look, seen, ready}
+use Rattle.served.proofs.Parts.{theRegisters, theStatus, theTransfer, theWire, theState, theHost, theTarget, theScene, Plays, over, puts, gets, Aimed, before, coded, taken, sent, look, seen, ready}
 use Rattle.served.proofs.Queue.{Lined, none-lined, empty-none, empty-some, room-is, waits-is, front-is, fits, popped, pushed}
-use Rattle.served.proofs.Small.{length-snoc, asked-is, Quiet, unfixed, drained}
+use Rattle.served.proofs.Small.{asked-is, Quiet, unfixed, drained}
 use Rattle.served.proofs.Stages.{stage-identify, stage-status}
 use Rattle.served.proofs.Accesses.{put-done, get-done, wait-at, at-once, Attends, attend, bus-idle, none-left}
 use Rattle.served.proofs.Going.{Going, owed-out}
 use Rattle.served.proofs.Polling.{any-poll}
-use Rattle.served.proofs.TransferScenes.{CommandPhase, Expects, body, late, Set, Ready, Hands, reads, writes, Coming, Left, some, none, Finals, finalNotes, Closes, reading, resting, Reach, loads, seeks, greets, commands, comes, goes, statuses, ends, told, calm, gone, rests}
-use Rattle.served.proofs.TransferSteps.{bus-step, pass-step, work-step, next-is, full-is, has-size, moved-byte, final-plays}
+use Rattle.served.proofs.TransferScenes.{CommandPhase, Expects, body, late, Set, Ready, Hands, reads, writes, Coming, some, none, Finals, finalNotes, reading, resting, Reach, loads, seeks, greets, commands, comes, goes, statuses, ends, told, calm, gone, rests}
+use Rattle.served.proofs.TransferSteps.{bus-step, pass-step, work-step, next-is, full-is, has-size, moved-byte}
 
 module _ (j : Job) (pr : Proper j) where
   abbrev B : Scene → Type 0

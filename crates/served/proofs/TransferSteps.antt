@@ -3,41 +3,39 @@
 use mathlib.Core.Path.{_≡_, refl, sym, _∙_, ap, subst}
 use mathlib.Core.Bool.{Bool, true, false, true≢false, false≢true}
 use mathlib.Core.List.{List, [], _∷_, _++_, append-assoc, append-nil}
-use mathlib.Core.Logic.{_⊎_, inl, inr, ⊎-elim}
-use Prim.Native.Nat.{ℕ, suc, _+_, _-_, _/_, _%_, _≤_, _<_}
+use mathlib.Core.Logic.{⊎-elim}
+use Prim.Native.Nat.{ℕ, suc, _+_, _/_, _%_, _≤_, _<_}
 use native.Mathlib.Omega.{arith}
 use native.Mathlib.Nat.{zero-add}
-use lib.Dec.{ltb, leb, eqb}
+use lib.Dec.{ltb}
 use lib.ListN.{length, getD, length-append}
 use lib.Seq.{getD-append-seam}
-use borrow.Author.Tests.{lt-ltb, le-ltb, eq-eqb, ne-eqb, lt-leb, eqb-true, ltb-true, ltb-false}
+use borrow.Author.Tests.{lt-ltb, eq-eqb, ne-eqb, lt-leb, ltb-true}
 use Rattle.chip.proofs.Cases.{true-or-false}
-use Rattle.chip.specs.Choice.{pick, both}
-use Rattle.chip.specs.Fifo.{waits, hasRoom}
+use Rattle.chip.specs.Choice.{pick}
 use Rattle.chip.specs.Calls.{step}
-use Rattle.chip.specs.Lines.{isOn, identify, bit}
+use Rattle.chip.specs.Lines.{isOn, identify}
 use Rattle.chip.specs.Phases.{phaseOf}
 use Rattle.chip.specs.Registers.{registerAt}
 use Rattle.chip.specs.SelectAndTransfer.{sizeOf, stageOf}
 use Rattle.chip.specs.declared.State.{State}
 use Rattle.chip.specs.declared.Registers.{Registers}
-use Rattle.chip.specs.declared.Fifo.{Fifo}
 use Rattle.chip.specs.declared.Connection.{Connection}
-use Rattle.chip.specs.declared.Stage.the-variants.{SendCommand, Body, AfterData}
+use Rattle.chip.specs.declared.Stage.the-variants.{SendCommand, Body}
 use Rattle.chip.specs.declared.Phase.the-variants.{DataIn, CommandOut, MessageOut}
 use Rattle.image.specs.Ok.{Bytes}
-use Rattle.story.specs.Story.{Item, item, items, Way, inward, outward, wayPhase, Job, loaded, identifies, close, story, Proper}
+use Rattle.story.specs.Story.{Item, item, items, Way, inward, outward, wayPhase, Job, identifies, close, Proper}
 use Rattle.story.specs.Hosts.{Access, get, Note, note, Host, countGets, byTransfer}
 use Rattle.story.specs.Schedule.{Target, Scene, bus, access, passing}
 use Rattle.story.specs.Demand.{incomingData}
 use Rattle.served.proofs.Opening.{steps}
-use Rattle.served.proofs.Time.{isSelecting, still, Spared, spare-on, spare-less, spared-at}
-use Rattle.served.proofs.Going.{Going, one-out, owed-out, sending-can, one-more}
-use Rattle.served.proofs.Parts.{theScene, Aimed, before, aimed, Polled, coded, taken, sent, Polls, look, seen, ready, Plays, over, puts, gets, stored-is}
-use Rattle.served.proofs.Queue.{Lined, none-lined, empty-none, empty-some, room-is, waits-is, front-is, fits, popped, pushed}
-use Rattle.served.proofs.Small.{length-snoc, items-snoc, one-less, bytes-tail, tail-bytes, next-byte, no-bytes, no-code, polls-look, polls-quiet, polls-drained, polls-up, small-address, canSend, some-snoc, waiting-some, can-pop, can-room, can-not, can-now, Quiet, unfixed, drained}
-use Rattle.served.proofs.Stages.{stage-identify, stage-status, stage-data, stage-next, stage-full, size-small, expects-after}
-use Rattle.served.proofs.TransferScenes.{CommandPhase, first, later, Expects, body, late, Set, Ready, Hands, reads, writes, Tale, Coming, Left, some, none, Finals, finalNotes, Closes, reading, resting, Reach, loads, seeks, greets, commands, comes, goes, statuses, ends, told, calm, gone, rests}
+use Rattle.served.proofs.Time.{isSelecting, still, spare-on, spare-less, spared-at}
+use Rattle.served.proofs.Going.{one-out, owed-out, sending-can, one-more}
+use Rattle.served.proofs.Parts.{theScene, before, aimed, coded, taken, sent, look, seen, ready, Plays, over, puts, gets, stored-is}
+use Rattle.served.proofs.Queue.{none-lined, empty-none, empty-some, room-is, waits-is, front-is, popped, pushed}
+use Rattle.served.proofs.Small.{length-snoc, items-snoc, one-less, bytes-tail, tail-bytes, next-byte, no-bytes, no-code, polls-look, polls-quiet, polls-drained, polls-up, small-address, some-snoc, waiting-some, can-pop, can-room, can-not, unfixed, drained}
+use Rattle.served.proofs.Stages.{stage-identify, stage-status, stage-next, stage-full, size-small, expects-after}
+use Rattle.served.proofs.TransferScenes.{CommandPhase, first, later, body, late, Set, Hands, reads, writes, Tale, Coming, some, none, Finals, finalNotes, Closes, reading, resting, Reach, loads, seeks, greets, commands, comes, goes, statuses, ends, told, calm, gone, rests}
 
 command-at : (had : List ℕ) (b : ℕ) (rest command behind cd : List ℕ) → had ++ (b ∷ rest) ≡ command → cd ≡ command ++ behind
     → getD cd (length had) 0 ≡ b

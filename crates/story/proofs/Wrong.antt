@@ -5,11 +5,9 @@ use Prim.Native.Nat.{ℕ}
 use native.Mathlib.Omega.{arith}
 use lib.ListN.{length, getD}
 use Rattle.story.specs.Story.{inward}
-use Rattle.story.specs.Hosts.{byTransfer, byPhases}
-use Rattle.story.specs.Demand.{dataHeld, countHeld, countBytes, sceneA, sceneB, Demand, lived}
+use Rattle.story.specs.Demand.{Demand, lived}
 use Rattle.story.specs.Runs.{small, turns}
 use Rattle.story.specs.Wrong.{nods, invents}
-use Rattle.chip.specs.State.{fresh}
 use Rattle.story.proofs.Opening.{runs}
 use Rattle.story.proofs.Runs.{proper-small, starts, in-time}
 

@@ -10,7 +10,7 @@
 --   Same         what both hosts hold at the end
 --   Demand       the whole: for every earlier life of the controller, every job, and every schedule of each host
 use mathlib.Core.Path.{_≡_}
-use mathlib.Core.Bool.{Bool, true, false}
+use mathlib.Core.Bool.{false}
 use mathlib.Core.List.{List, [], _∷_, _++_}
 use mathlib.Core.Logic.{_⊎_}
 use Prim.Native.Nat.{ℕ, _-_, _/_, _%_, _≤_}
@@ -27,7 +27,7 @@ use Rattle.chip.specs.declared.Phase.the-variants.{DataIn, StatusIn}
 use Rattle.chip.specs.declared.Connection.the-variants.{Disconnected}
 use Rattle.story.specs.Story.{Item, item, Way, inward, outward, Job, loaded, story, Proper}
 use Rattle.story.specs.Hosts.{Note, note, Host, Program, starting, byTransfer, byPhases}
-use Rattle.story.specs.Schedule.{Place, calling, away, Target, Scene, Move, moves, due, Brought}
+use Rattle.story.specs.Schedule.{calling, away, Target, Scene, Move, moves, due, Brought}
 
 pub record Start (s : State) : Type 0 where
   pub read : interrupted s ≡ false

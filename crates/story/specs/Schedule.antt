@@ -9,13 +9,13 @@
 --   Move      one of the three; a schedule is any list of moves
 --   due       the accesses that the host has to make next, by the current state and not by an earlier look
 --   Brought   the Target is brought on: its next move is taken at once, or it is not, an access is due, and with that access made the
---             Target is brought on. It is inductive, so finitely many accesses are enough; how many is the measure that falls.
+--             Target is brought on. It is inductive, so finitely many accesses are enough; `accesses` counts them.
 -- What moves the controller is a parameter, so that a wrong step can be put in its place.
 use mathlib.Core.Path.{_≡_}
 use mathlib.Core.Bool.{Bool, true, false}
 use mathlib.Core.List.{List, [], _∷_, _++_}
-use Prim.Native.Nat.{ℕ, _-_, _%_}
-use lib.Dec.{eqb, ltb}
+use Prim.Native.Nat.{ℕ, suc, _-_}
+use lib.Dec.{ltb}
 use Rattle.chip.specs.Choice.{pick}
 use Rattle.chip.specs.Answers.{value}
 use Rattle.chip.specs.Phases.{phaseNumber, comesIn}
@@ -186,6 +186,11 @@ module _ (does : Call → State → Outcome) (g : Program) where
   pub data Brought : Scene → Type 0 where
     now : {c : Scene} → onward (c .target .place) c ≡ true → Brought c
     later : {c : Scene} → isNone (due (bus c)) ≡ false → Brought (attended (bus c)) → Brought c
+
+  -- how many accesses bring it on: the measure that each of them lowers by one
+  abbrev pub accesses : {c : Scene} → Brought c → ℕ
+  accesses (now e) = 0
+  accesses (later e b) = suc (accesses b)
 
   -- any interleaving
 

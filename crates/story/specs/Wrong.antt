@@ -4,7 +4,6 @@
 -- "one that really takes the first byte and only nods at the rest, one whose count or moved number is invented"; "demand 3, stated over its
 -- steps and the Target's story, [shuts out] again the fourth and a false n - k".
 use mathlib.Core.Bool.{Bool, true, false, not}
-use Prim.Native.Nat.{ℕ}
 use lib.Dec.{eqb}
 use Rattle.chip.specs.Choice.{pick, both}
 use Rattle.chip.specs.State.{setFifo, setCount}
