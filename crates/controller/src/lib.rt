@@ -9,7 +9,6 @@ use bus::answer;
 use bus::free;
 use bus::reselection;
 use bus::time;
-ghost use Prim.Native.Nat.{_*_};
 ghost use Rattle.chip.specs.Calls as Calls;
 ghost use Rattle.chip.specs.Entries.{entered, freshEntered, linesEntered};
 ghost use mathlib.Core.Path.{_≡_};

@@ -5,7 +5,7 @@
 --   reached-image        the image of every state reached is valid
 --   by-parts, of-parts   the facts as `Sound` has them, and by a state's parts
 use mathlib.Core.Path.{_≡_, refl}
-use mathlib.Core.Bool.{Bool, true, false, not, true≢false}
+use mathlib.Core.Bool.{Bool, true, false, not}
 use mathlib.Core.List.{List, [], _∷_}
 use Prim.Native.Nat.{ℕ, _<_}
 use borrow.Author.Tests.{ltb-true}
