@@ -3,10 +3,11 @@
 --   Aimed     where the pointer is set for the host's next access, it is that access's address
 --   Polls     the host looks, or makes the access that a look asked for, which is still as good as when it looked
 --   storedIn  the registers with one written
+--   Tale, onto   the story as what has crossed and what is still to cross, and one item more crossed
 --   Plays     a list of accesses to 00 to 16h that leads to a goal, and what comes after it
-use mathlib.Core.Path.{_≡_, refl}
+use mathlib.Core.Path.{_≡_, refl, _∙_}
 use mathlib.Core.Bool.{Bool, true, false}
-use mathlib.Core.List.{List, [], _∷_, _++_}
+use mathlib.Core.List.{List, [], _∷_, _++_, append-assoc}
 use Prim.Native.Nat.{ℕ, _-_, _<_}
 use lib.Dec.{eqb, ltb}
 use lib.ListN.{set}
@@ -106,3 +107,10 @@ pub data Plays (after : List Access) (Goal : Registers → List Note → Type 0)
       → Plays after Goal (put a b ∷ l) r n
   gets : {a : ℕ} {l : List Access} {r : Registers} {n : List Note} → a < 0x17 → Plays after Goal l r (n ++ (note a (registerAt a r) ∷ []))
       → Plays after Goal (get a ∷ l) r n
+
+-- what has crossed and what is still to cross are the whole story
+pub record Tale (whole log todo : List Item) : Type 0 where
+  pub all : log ++ todo ≡ whole
+
+pub onto : {whole log l : List Item} {i : Item} → Tale whole log (i ∷ l) → Tale whole (log ++ (i ∷ [])) l
+onto {log = log} {l = l} {i = i} t = record { all = append-assoc log (i ∷ []) l ∙ t .all }

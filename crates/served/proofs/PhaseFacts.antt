@@ -22,7 +22,7 @@ use Rattle.story.specs.Story.{Item, item, items, Job}
 use Rattle.story.specs.Hosts.{put, Note, Host, planned, countPuts, leftGets, countFor, serving, phasesHeard}
 use Rattle.served.proofs.Parts.{storedIn, Plays, over, puts, gets}
 use Rattle.served.proofs.Small.{items-snoc}
-use Rattle.served.proofs.PhaseScenes.{Seg, seg, ins, notesOf, notesAfter, Names, asked, Good, last, more, Tale, Heard, Noting, Counted}
+use Rattle.served.proofs.PhaseScenes.{Seg, seg, ins, notesOf, notesAfter, Names, asked, Good, last, more, Heard, Noting, Counted}
 use Rattle.served.proofs.PhaseScenes as S
 
 pub phase-round : (p : Phase) → phaseOf (phaseNumber p) ≡ p
@@ -135,9 +135,6 @@ ins-append (item p x ∷ a) b = go (comesIn p) (ins-append a b)
     go false e = e
 
 module _ {j : Job} {whole : List Item} {total : List Note} where
-  pub onto : {log l : List Item} {i : Item} → Tale j whole total log (i ∷ l) → Tale j whole total (log ++ (i ∷ [])) l
-  onto {log = log} {l = l} {i = i} t = record { all = append-assoc log (i ∷ []) l ∙ t .all }
-
   pub heard-out : {log got : List Item} {q : Phase} {f : List ℕ} (p : Phase) (x : ℕ) → comesIn p ≡ false → Heard j whole total log got q f
       → Heard j whole total (log ++ (item p x ∷ [])) got q f
   unfolding pick

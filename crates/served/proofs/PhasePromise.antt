@@ -11,6 +11,7 @@ use Rattle.chip.specs.declared.Phase.the-variants.{DataIn}
 use Rattle.story.specs.Story.{Item, Job}
 use Rattle.story.specs.Hosts.{Note, byPhases}
 use Rattle.story.specs.Schedule.{away, talking, calling, Place, Scene, Move, offer, pass, work, moves, move}
+use Rattle.served.proofs.Parts.{Tale}
 use Rattle.served.proofs.PhaseScenes.{ins, Reach, begins, sending, taking, closing, draining, ends, loads, seeks, greets, waits, named, sends, takes, closes, drains, pauses, paused, calm, gone, rests}
 use Rattle.served.proofs.PhaseScenes as S
 use Rattle.served.proofs.PhaseSteps.{bus-step, pass-step, work-step}
@@ -43,10 +44,10 @@ module _ (j : Job) (whole : List Item) (total : List Note) where
   not-yet p e (inl q) = let z : _≡_ {A = ℕ} 0 1 = cc in absurd (omega arith)
   not-yet p e (inr q) = let z : _≡_ {A = ℕ} 0 1 = cc in absurd (omega arith)
 
-  logged : (log : List Item) → S.Tale j whole total log [] → log ≡ whole
+  logged : (log : List Item) → Tale whole log [] → log ≡ whole
   logged log t = sym (append-nil log) ∙ t .all
 
-  holding : {c : Scene} {log got : List Item} {n : List Note} → S.Tale j whole total log [] → S.Heard j whole total log got DataIn [] → S.Noting j whole total n []
+  holding : {c : Scene} {log got : List Item} {n : List Note} → Tale whole log [] → S.Heard j whole total log got DataIn [] → S.Noting j whole total n []
       → c .target .log ≡ log → c .host .got ≡ got → c .host .noted ≡ n → Holds c
   holding {log = log} {got = got} {n = n} t h m e f g =
       record {

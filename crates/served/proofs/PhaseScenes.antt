@@ -30,7 +30,7 @@ use Rattle.image.specs.Ok.{Bytes}
 use Rattle.story.specs.Story.{Item, item, items, Job}
 use Rattle.story.specs.Hosts.{Access, put, Note, note, countFor, giveFor}
 use Rattle.story.specs.Schedule.{calling, talking, away, Scene}
-use Rattle.served.proofs.Parts.{theRegisters, theStatus, theTransfer, theWire, theState, theHost, theTarget, theScene, Aimed, Polls, Plays}
+use Rattle.served.proofs.Parts.{theRegisters, theStatus, theTransfer, theWire, theState, theHost, theTarget, theScene, Aimed, Polls, Plays, Tale}
 use Rattle.served.proofs.Time.{Spared}
 use Rattle.served.proofs.Going.{Going}
 use Rattle.served.proofs.Queue.{Lined}
@@ -86,9 +86,6 @@ module _ (j : Job) (whole : List Item) (total : List Note) where
     next : {q : Phase} {c : ℕ} {cs y : List ℕ} {gs : List Seg} → isMessageIn p ≡ false → samePhase q p ≡ false → Good (seg q (c ∷ cs) y ∷ gs)
         → After p (seg q (c ∷ cs) y ∷ gs)
 
-  pub record Tale (log todo : List Item) : Type 0 where
-    pub all : log ++ todo ≡ whole
-
   pub record Heard (log got : List Item) (p : Phase) (fifo : List ℕ) : Type 0 where
     pub same : got ++ items p fifo ≡ ins log
 
@@ -120,7 +117,7 @@ module _ (j : Job) (whole : List Item) (total : List Note) where
         → Spared (j .timeout) 0 pa
         → Good g
         → Noting [] (notesAfter g)
-        → Tale [] (flat g)
+        → Tale whole [] (flat g)
         → Begins
         (theScene (theState r (theStatus x c m l e Nothing) q (theTransfer Idle d o) (theWire Disconnected at false rp ls id el))
         (theHost td f MessageOut [] [] n) (theTarget calling pa [] (flat g)))
@@ -131,7 +128,7 @@ module _ (j : Job) (whole : List Item) (total : List Note) where
         → Spared tm el pa
         → Good g
         → Noting [] (notesAfter g)
-        → Tale [] (flat g)
+        → Tale whole [] (flat g)
         → Begins
         (theScene
         (theState (theRegisters ow ct tm cd lu ph sy ct2 ds sr) (theStatus x c m l e Nothing) q (theTransfer SelectWithAtn d o)
@@ -141,7 +138,7 @@ module _ (j : Job) (whole : List Item) (total : List Note) where
         → Quiet d q
         → Good g
         → Noting [] (notesAfter g)
-        → Tale [] (flat g)
+        → Tale whole [] (flat g)
         → Begins
         (theScene (theState r (theStatus x 0x11 m l e Interrupt) q (theTransfer Idle d o) (theWire Connected at false NoPhase ls id el))
         (theHost td f MessageOut [] [] []) (theTarget talking pa [] (flat g)))
@@ -150,7 +147,7 @@ module _ (j : Job) (whole : List Item) (total : List Note) where
         → Quiet d q
         → Good g
         → Noting [] (notesAfter g)
-        → Tale [] (flat g)
+        → Tale whole [] (flat g)
         → Begins
         (theScene (theState r (theStatus x c m l e Nothing) q (theTransfer Idle d o) (theWire Connected at false NoPhase ls id el))
         (theHost td f MessageOut [] [] []) (theTarget talking pa [] (flat g)))
@@ -163,7 +160,7 @@ module _ (j : Job) (whole : List Item) (total : List Note) where
         → Bytes v
         → Noting n (notesOf cr lf ++ notesAfter (seg p bs y ∷ g))
         → Heard log got DataIn []
-        → Tale log (flat (seg p bs y ∷ g))
+        → Tale whole log (flat (seg p bs y ∷ g))
         → Begins
         (theScene
         (theState (theRegisters ow ct tm cd lu ph sy lf ds sr) (theStatus x c m l e Interrupt) q (theTransfer Idle d o)
@@ -175,7 +172,7 @@ module _ (j : Job) (whole : List Item) (total : List Note) where
         → Quiet d q
         → Good (seg p bs y ∷ g)
         → Heard log got DataIn []
-        → Tale log (flat (seg p bs y ∷ g))
+        → Tale whole log (flat (seg p bs y ∷ g))
         → Begins
         (theScene (theState r (theStatus x c m l e Nothing) q (theTransfer Idle d o) (theWire Connected at false (Was p) ls id el))
         (theHost td f p (giveFor j p) got n) (theTarget talking pa log (flat (seg p bs y ∷ g))))
@@ -191,7 +188,7 @@ module _ (j : Job) (whole : List Item) (total : List Note) where
         → After p g
         → Noting n (notesOf p (length y) ++ notesAfter g)
         → Heard log got DataIn []
-        → Tale log (items p rest ++ flat g)
+        → Tale whole log (items p rest ++ flat g)
         → Sends
         (theScene
         (theState (theRegisters ow ct tm cd lu ph sy (length rest + length y) ds sr) (theStatus x c m l e Nothing) q (theTransfer TransferInfo Out false)
@@ -209,7 +206,7 @@ module _ (j : Job) (whole : List Item) (total : List Note) where
         → After p g
         → Noting n (notesOf p (length y) ++ notesAfter g)
         → Heard log got p fifo
-        → Tale log (items p rest ++ flat g)
+        → Tale whole log (items p rest ++ flat g)
         → Takes
         (theScene
         (theState (theRegisters ow ct tm cd lu ph sy (length rest + length y) ds sr) (theStatus x c m l e Nothing) q (theTransfer TransferInfo In false)
@@ -225,7 +222,7 @@ module _ (j : Job) (whole : List Item) (total : List Note) where
         → Bytes v
         → Noting n []
         → Heard log got MessageIn []
-        → Tale log (item MessageIn b ∷ [])
+        → Tale whole log (item MessageIn b ∷ [])
         → Closes
         (theScene
         (theState (theRegisters ow ct tm cd lu ph sy 1 ds sr) (theStatus x c m l e Nothing) q (theTransfer TransferInfo In false)
@@ -243,7 +240,7 @@ module _ (j : Job) (whole : List Item) (total : List Note) where
         → Bytes v
         → Noting n (notesOf cr lf ++ notesAfter (seg p bs y ∷ g))
         → Heard log got cr (b ∷ fifo)
-        → Tale log (flat (seg p bs y ∷ g))
+        → Tale whole log (flat (seg p bs y ∷ g))
         → Drains
         (theScene
         (theState (theRegisters ow ct tm cd lu ph sy lf ds sr) (theStatus x c m l e (Ending k)) q (theTransfer TransferInfo In o)
@@ -258,7 +255,7 @@ module _ (j : Job) (whole : List Item) (total : List Note) where
         → Bytes v
         → Noting n []
         → Heard log got MessageIn (b ∷ [])
-        → Tale log []
+        → Tale whole log []
         → Ends
         (theScene
         (theState r (theStatus x c m l e (Ending 0x20)) q (theTransfer TransferInfo In o) (theWire Connected at true rp ls id el))
@@ -270,7 +267,7 @@ module _ (j : Job) (whole : List Item) (total : List Note) where
         → Bytes v
         → Noting n []
         → Heard log got DataIn []
-        → Tale log []
+        → Tale whole log []
         → Ends
         (theScene
         (theState r (theStatus x 0x20 m l e Interrupt) q (theTransfer Idle d o) (theWire Connected at true rp ls id el)) (theHost td f hp v got n)
@@ -282,7 +279,7 @@ module _ (j : Job) (whole : List Item) (total : List Note) where
         → Bytes v
         → Noting n []
         → Heard log got DataIn []
-        → Tale log []
+        → Tale whole log []
         → Ends
         (theScene
         (theState r (theStatus x c m l e Nothing) q (theTransfer Idle d o) (theWire Connected at true rp ls id el))
@@ -294,7 +291,7 @@ module _ (j : Job) (whole : List Item) (total : List Note) where
         → Bytes v
         → Noting n []
         → Heard log got DataIn []
-        → Tale log []
+        → Tale whole log []
         → Ends
         (theScene
         (theState r (theStatus x c m l e Nothing) q (theTransfer Idle d o) (theWire Connected at false rp ls id el)) (theHost td f hp v got n)
@@ -306,7 +303,7 @@ module _ (j : Job) (whole : List Item) (total : List Note) where
         → Bytes v
         → Noting n []
         → Heard log got DataIn []
-        → Tale log []
+        → Tale whole log []
         → Ends
         (theScene
         (theState r (theStatus x 0x85 m l e Interrupt) q (theTransfer Idle d o) (theWire Disconnected at false rp ls id el)) (theHost td f hp v got n)
@@ -318,7 +315,7 @@ module _ (j : Job) (whole : List Item) (total : List Note) where
         → Bytes v
         → Noting n []
         → Heard log got DataIn []
-        → Tale log []
+        → Tale whole log []
         → Ends
         (theScene
         (theState r (theStatus x c m l e Nothing) q (theTransfer Idle d o) (theWire Disconnected at false rp ls id el)) (theHost td f hp v got n)

@@ -19,6 +19,8 @@ use Rattle.chip.specs.declared.Fifo.{Fifo}
 use Rattle.chip.specs.declared.Identity.{Identity}
 use Rattle.chip.specs.declared.Connection.the-variants.{Disconnected, Connected}
 use Rattle.chip.specs.declared.Running.the-variants.{Idle, TransferInfo}
+use Rattle.chip.specs.Interrupts.{isEnding}
+use Rattle.chip.specs.declared.Pending.{Pending}
 use Rattle.chip.specs.declared.Pending.the-variants.{Nothing, Interrupt, Ending}
 use Rattle.chip.specs.declared.Direction.{Direction}
 use Rattle.chip.specs.declared.Direction.the-variants.{In, Out}
@@ -46,19 +48,20 @@ module _ (j : Job) (whole : List Item) (total : List Note) where
   abbrev B : Scene → Type 0
   B c = Brought step (byPhases j) c
 
-  -- a phase that is reported is Held while no command runs
-  bus-named : (r : Registers) (x c m : ℕ) (l e : Bool) (q : Fifo) (d : Direction) (o at : Bool) (ls : Noted) (id : Identity) (el : ℕ) (h : Host) (pa : ℕ) (log : List Item)
-      {p : Phase} {bs y : List ℕ} {g : List Seg}
+  -- a phase that is reported is Held while no command runs, its code read or not
+  bus-named : (r : Registers) (x c m : ℕ) (l e : Bool) (pd : Pending) (q : Fifo) (d : Direction) (o at : Bool) (ls : Noted) (id : Identity) (el : ℕ) (h : Host)
+      (pa : ℕ) (log : List Item) {p : Phase} {bs y : List ℕ} {g : List Seg}
+      → isEnding pd ≡ false
       → Good j whole total (seg p bs y ∷ g)
       → bus step (byPhases j)
-      (theScene (theState r (theStatus x c m l e Nothing) q (theTransfer Idle d o) (theWire Connected at false (Was p) ls id el)) h
+      (theScene (theState r (theStatus x c m l e pd) q (theTransfer Idle d o) (theWire Connected at false (Was p) ls id el)) h
       (theTarget talking pa log (flat (seg p bs y ∷ g))))
-      ≡ theScene (theState r (theStatus x c m l e Nothing) q (theTransfer Idle d o) (theWire Connected at false (Was p) ls id el)) h
+      ≡ theScene (theState r (theStatus x c m l e pd) q (theTransfer Idle d o) (theWire Connected at false (Was p) ls id el)) h
       (theTarget talking pa log (flat (seg p bs y ∷ g)))
   unfolding steps
-  bus-named r x c m l e q d o at ls id el h pa log (last k) = rw (lt-ltb _ 256 k, phase-round MessageIn)
-  bus-named r x c m l e q d o at ls id el h pa log (more {p = ph} {b = b} f a z g) =
-      rw (phase-small ph, shown-byte (comesIn ph) b (f .bytes 0), phase-round ph, same-phase ph)
+  bus-named r x c m l e pd q d o at ls id el h pa log i (last k) = rw (lt-ltb _ 256 k, i, phase-round MessageIn)
+  bus-named r x c m l e pd q d o at ls id el h pa log i (more {p = ph} {b = b} f a z g) =
+      rw (phase-small ph, shown-byte (comesIn ph) b (f .bytes 0), i, phase-round ph, same-phase ph)
 
   -- a phase goes out
   give-on : {c m x pa el ow ct tm lu ph sy ds sr : ℕ} {l e at : Bool} {q : Fifo} {ls : Noted} {id : Identity} {cd y : List ℕ}
@@ -188,12 +191,12 @@ module _ (j : Job) (whole : List Item) (total : List Note) where
       (theScene (theState r (theStatus x c m l e Nothing) q (theTransfer Idle d o) (theWire Connected at false (Was p) ls id el))
       (theHost td f p (giveFor j p) got n) (theTarget talking pa log (flat (seg p bs y ∷ g))))
   unfolding scenes
-  code-on (over k) w = attend-at (byPhases j) (bus-named _ _ _ _ _ _ _ _ _ _ _ _ _ _ _ _ w) (command-on k w)
+  code-on (over k) w = attend-at (byPhases j) (bus-named _ _ _ _ _ _ Nothing _ _ _ _ _ _ _ _ _ _ refl w) (command-on k w)
   code-on {c = c} {m = m} {x = x} {l = l} {e = e} {o = o} {f = f} {q = q} {d = d} {td = td} {r = r} {p = ph} {got = got} {n = n} (puts {a = a} {b = b} {l = k} u h p) w =
-      wait-at (byPhases j) _ _ (bus-named _ _ _ _ _ _ _ _ _ _ _ _ _ _ _ _ w) refl
+      wait-at (byPhases j) _ _ (bus-named _ _ _ _ _ _ Nothing _ _ _ _ _ _ _ _ _ _ refl w) refl
       (put-done r c m l e Nothing q d o _ refl (byPhases j) ph (giveFor j ph) got n _ x f td k a b u h) (code-on p w)
   code-on {c = c} {m = m} {x = x} {l = l} {e = e} {o = o} {f = f} {q = q} {d = d} {td = td} {r = r} {p = ph} {got = got} {n = n} (gets {a = a} {l = k} u p) w =
-      wait-at (byPhases j) _ _ (bus-named _ _ _ _ _ _ _ _ _ _ _ _ _ _ _ _ w) refl
+      wait-at (byPhases j) _ _ (bus-named _ _ _ _ _ _ Nothing _ _ _ _ _ _ _ _ _ _ refl w) refl
       (get-done r c m l e Nothing q d o _ refl (byPhases j) ph (giveFor j ph) got n _ x f td k a u) (code-on p w)
 
   -- a code that names a phase is read
@@ -212,20 +215,7 @@ module _ (j : Job) (whole : List Item) (total : List Note) where
         on = rw asked-is (rw (heard-named j c p k) (code-on (plays-phase _ cr p r n (good-small j whole total w) t) w));
       }
 
-  -- a named phase is Held until its code is read, and in an ending every phase is
-  bus-coded : (r : Registers) (x c m : ℕ) (l e : Bool) (q : Fifo) (d : Direction) (o at : Bool) (ls : Noted) (id : Identity) (el : ℕ) (h : Host) (pa : ℕ) (log : List Item)
-      {p : Phase} {bs y : List ℕ} {g : List Seg}
-      → Good j whole total (seg p bs y ∷ g)
-      → bus step (byPhases j)
-      (theScene (theState r (theStatus x c m l e Interrupt) q (theTransfer Idle d o) (theWire Connected at false (Was p) ls id el)) h
-      (theTarget talking pa log (flat (seg p bs y ∷ g))))
-      ≡ theScene (theState r (theStatus x c m l e Interrupt) q (theTransfer Idle d o) (theWire Connected at false (Was p) ls id el)) h
-      (theTarget talking pa log (flat (seg p bs y ∷ g)))
-  unfolding steps
-  bus-coded r x c m l e q d o at ls id el h pa log (last k) = rw (lt-ltb _ 256 k, phase-round MessageIn)
-  bus-coded r x c m l e q d o at ls id el h pa log (more {p = ph} {b = b} f a z g) =
-      rw (phase-small ph, shown-byte (comesIn ph) b (f .bytes 0), phase-round ph, same-phase ph)
-
+  -- in an ending every phase is Held
   bus-ending : (r : Registers) (x c k m : ℕ) (l e : Bool) (q : Fifo) (tr : Transfer) (at ak : Bool) (rp ls : Noted) (id : Identity) (el : ℕ) (h : Host) (pa : ℕ) (log : List Item)
       {p : Phase} {bs y : List ℕ} {g : List Seg}
       → Good j whole total (seg p bs y ∷ g)
@@ -255,7 +245,7 @@ module _ (j : Job) (whole : List Item) (total : List Note) where
         asks = rw (asked-is, empty-some k);
         on =
             rw (asked-is, empty-some k)
-            (rw e (rw (empty-some k, front-is k, empty-none (popped k)) (attend-at (byPhases j) (bus-coded _ _ _ _ _ _ _ _ _ _ _ _ _ _ _ _ w) (name-on c w t))));
+            (rw e (rw (empty-some k, front-is k, empty-none (popped k)) (attend-at (byPhases j) (bus-named _ _ _ _ _ _ Interrupt _ _ _ _ _ _ _ _ _ _ refl w) (name-on c w t))));
       }
   drain-on (z ∷ fifo) e k c w t =
       record {
@@ -419,7 +409,7 @@ module _ (j : Job) (whole : List Item) (total : List Note) where
   begins-on (greets p q g n w) = any-poll (byPhases j) _ _ _ _ _ _ _ _ _ p (greet-held q g n)
   begins-on (waits p q g n w) = any-poll (byPhases j) _ _ _ _ _ _ _ _ _ p (wait-on q g n)
   begins-on (named p q k g v n i w) =
-      any-poll (byPhases j) _ _ _ _ _ _ _ _ _ p (attend-at (byPhases j) (bus-coded _ _ _ _ _ _ _ _ _ _ _ _ _ _ _ _ g) (name-on k g n))
+      any-poll (byPhases j) _ _ _ _ _ _ _ _ _ p (attend-at (byPhases j) (bus-named _ _ _ _ _ _ Interrupt _ _ _ _ _ _ _ _ _ _ refl g) (name-on k g n))
   begins-on (S.coded p a q g i w) = code-on p g
 
   sends-on : {c : Scene} → Sends j whole total c → B c

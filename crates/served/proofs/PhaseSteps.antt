@@ -22,10 +22,10 @@ use Rattle.story.specs.Schedule.{Target, Scene, bus, access, passing}
 use Rattle.served.proofs.Opening.{steps}
 use Rattle.served.proofs.Time.{isSelecting, still, spare-on, spare-less, spared-at}
 use Rattle.served.proofs.Going.{one-out, owed-out, sending-can, one-more}
-use Rattle.served.proofs.Parts.{theScene, before, aimed, coded, taken, sent, look, seen, ready, over, puts, gets, stored-is}
+use Rattle.served.proofs.Parts.{theScene, before, aimed, coded, taken, sent, look, seen, ready, over, puts, gets, stored-is, onto}
 use Rattle.served.proofs.Queue.{none-lined, empty-none, empty-some, room-is, waits-is, front-is, popped, pushed}
 use Rattle.served.proofs.Small.{one-less, bytes-tail, tail-bytes, next-byte, no-bytes, no-code, polls-look, polls-quiet, polls-drained, polls-up, small-address, some-snoc, waiting-some, can-pop, can-room, can-not, unfixed, drained}
-use Rattle.served.proofs.PhaseFacts.{phase-round, phase-small, same-phase, shown-byte, single-info, heard-11, heard-20, heard-85, heard-named, onto, heard-out, heard-in, heard-read, heard-at, good-byte, noting-on, plays-phase}
+use Rattle.served.proofs.PhaseFacts.{phase-round, phase-small, same-phase, shown-byte, single-info, heard-11, heard-20, heard-85, heard-named, heard-out, heard-in, heard-read, heard-at, good-byte, noting-on, plays-phase}
 use Rattle.served.proofs.PhaseScenes.{Seg, seg, asked, Good, last, more, next, polls, Begins, Sends, Takes, Closes, Drains, Ends, Reach, begins, sending, taking, closing, draining, ends, loads, seeks, greets, waits, named, sends, takes, closes, drains, pauses, paused, calm, gone, rests}
 use Rattle.served.proofs.PhaseScenes as S
 

@@ -1,5 +1,5 @@
 -- Small facts about numbers, lists, auxiliary status and the Data register that both hosts' proofs use.
---   packed-int, packed-dbr, asked-is   what a look at auxiliary status asks for
+--   asked-is                           what a look at auxiliary status asks for
 --   polls-look, small-address          the host's next access after a look, and that its address is one
 --   Quiet                              the Data register has nothing to move
 --   bytes-tail, next-byte              the bytes that a host sends are bytes
@@ -48,79 +48,40 @@ next-byte (b ∷ l) h = lt-ltb b 256 (h 0)
 
 -- ---- auxiliary status
 
-packed-int : (i l b e d : Bool) → isOn 7 (packed i l b e d) ≡ i
-unfolding isOn packed
-packed-int true true true true true = refl
-packed-int true true true true false = refl
-packed-int true true true false true = refl
-packed-int true true true false false = refl
-packed-int true true false true true = refl
-packed-int true true false true false = refl
-packed-int true true false false true = refl
-packed-int true true false false false = refl
-packed-int true false true true true = refl
-packed-int true false true true false = refl
-packed-int true false true false true = refl
-packed-int true false true false false = refl
-packed-int true false false true true = refl
-packed-int true false false true false = refl
-packed-int true false false false true = refl
-packed-int true false false false false = refl
-packed-int false true true true true = refl
-packed-int false true true true false = refl
-packed-int false true true false true = refl
-packed-int false true true false false = refl
-packed-int false true false true true = refl
-packed-int false true false true false = refl
-packed-int false true false false true = refl
-packed-int false true false false false = refl
-packed-int false false true true true = refl
-packed-int false false true true false = refl
-packed-int false false true false true = refl
-packed-int false false true false false = refl
-packed-int false false false true true = refl
-packed-int false false false true false = refl
-packed-int false false false false true = refl
-packed-int false false false false false = refl
-
-packed-dbr : (i l b e d : Bool) → isOn 0 (packed i l b e d) ≡ d
-unfolding isOn packed
-packed-dbr true true true true true = refl
-packed-dbr true true true true false = refl
-packed-dbr true true true false true = refl
-packed-dbr true true true false false = refl
-packed-dbr true true false true true = refl
-packed-dbr true true false true false = refl
-packed-dbr true true false false true = refl
-packed-dbr true true false false false = refl
-packed-dbr true false true true true = refl
-packed-dbr true false true true false = refl
-packed-dbr true false true false true = refl
-packed-dbr true false true false false = refl
-packed-dbr true false false true true = refl
-packed-dbr true false false true false = refl
-packed-dbr true false false false true = refl
-packed-dbr true false false false false = refl
-packed-dbr false true true true true = refl
-packed-dbr false true true true false = refl
-packed-dbr false true true false true = refl
-packed-dbr false true true false false = refl
-packed-dbr false true false true true = refl
-packed-dbr false true false true false = refl
-packed-dbr false true false false true = refl
-packed-dbr false true false false false = refl
-packed-dbr false false true true true = refl
-packed-dbr false false true true false = refl
-packed-dbr false false true false true = refl
-packed-dbr false false true false false = refl
-packed-dbr false false false true true = refl
-packed-dbr false false false true false = refl
-packed-dbr false false false false true = refl
-packed-dbr false false false false false = refl
-
 pub asked-is : (i l b e d : Bool) (p : Phase) → asked (packed i l b e d) p ≡ askedBy i d p
-unfolding asked
-asked-is i l b e d p = rw (packed-int i l b e d, packed-dbr i l b e d)
+unfolding asked isOn packed
+asked-is true true true true true p = refl
+asked-is true true true true false p = refl
+asked-is true true true false true p = refl
+asked-is true true true false false p = refl
+asked-is true true false true true p = refl
+asked-is true true false true false p = refl
+asked-is true true false false true p = refl
+asked-is true true false false false p = refl
+asked-is true false true true true p = refl
+asked-is true false true true false p = refl
+asked-is true false true false true p = refl
+asked-is true false true false false p = refl
+asked-is true false false true true p = refl
+asked-is true false false true false p = refl
+asked-is true false false false true p = refl
+asked-is true false false false false p = refl
+asked-is false true true true true p = refl
+asked-is false true true true false p = refl
+asked-is false true true false true p = refl
+asked-is false true true false false p = refl
+asked-is false true false true true p = refl
+asked-is false true false true false p = refl
+asked-is false true false false true p = refl
+asked-is false true false false false p = refl
+asked-is false false true true true p = refl
+asked-is false false true true false p = refl
+asked-is false false true false true p = refl
+asked-is false false true false false p = refl
+asked-is false false false true true p = refl
+asked-is false false false true false p = refl
+asked-is false false false false true p = refl
+asked-is false false false false false p = refl
 
 data-polled : {i w o : Bool} (p : Phase) (t : Bool) → comesIn p ≡ t → (comesIn p ≡ true → w ≡ true) → (comesIn p ≡ false → o ≡ true)
     → Polled i w o (pick t take send)

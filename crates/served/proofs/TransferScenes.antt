@@ -29,7 +29,7 @@ use Rattle.story.specs.Story.{Item, item, items, Way, inward, outward, wayPhase
 use Rattle.story.specs.Hosts.{Access, put, Note, note}
 use Rattle.story.specs.Schedule.{calling, talking, away, Scene}
 use Rattle.story.specs.Demand.{incomingData}
-use Rattle.served.proofs.Parts.{theRegisters, theStatus, theTransfer, theWire, theState, theHost, theTarget, theScene, Aimed, Polls, Plays}
+use Rattle.served.proofs.Parts.{theRegisters, theStatus, theTransfer, theWire, theState, theHost, theTarget, theScene, Aimed, Polls, Plays, Tale}
 use Rattle.served.proofs.Time.{Spared}
 use Rattle.served.proofs.Going.{Going}
 use Rattle.served.proofs.Queue.{Lined}
@@ -62,9 +62,6 @@ module _ (j : Job) where
   pub data Hands : Way → List ℕ → List ℕ → Type 0 where
     reads : {d : List ℕ} → j .way ≡ inward → d ≡ j .moved → Hands inward d []
     writes : {d v : List ℕ} → j .way ≡ outward → d ≡ j .moved → v ≡ d ++ j .beyond → Hands outward d v
-
-  pub record Tale (log todo : List Item) : Type 0 where
-    pub whole : log ++ todo ≡ story j
 
   pub record Coming (got : List Item) (fifo rest : List ℕ) : Type 0 where
     pub had : List ℕ
@@ -132,7 +129,7 @@ module _ (j : Job) where
         → Bytes v
         → CommandPhase ph (length had)
         → had ++ rest ≡ j .command
-        → Tale log (items CommandOut rest ++ (items (wayPhase w) d ++ close j))
+        → Tale (story j) log (items CommandOut rest ++ (items (wayPhase w) d ++ close j))
         → Reach
         (theScene
         (theState (theRegisters ow ct tm cd lu ph sy (length d + length (j .beyond)) ds sr) (theStatus x c m l e Nothing) empty
@@ -146,7 +143,7 @@ module _ (j : Job) where
         → Lined q fifo
         → Coming got fifo rest
         → Expects ph (sizeOf (getD cd 0 0)) (length rest + length (j .beyond))
-        → Tale log (items DataIn rest ++ close j)
+        → Tale (story j) log (items DataIn rest ++ close j)
         → Reach
         (theScene
         (theState (theRegisters ow ct tm cd lu ph sy (length rest + length (j .beyond)) ds sr) (theStatus x c m l e Nothing) q
@@ -160,7 +157,7 @@ module _ (j : Job) where
         → Lined q fifo
         → Going fifo rest give (j .beyond)
         → Expects ph (sizeOf (getD cd 0 0)) (length rest + length (j .beyond))
-        → Tale log (items DataOut rest ++ close j)
+        → Tale (story j) log (items DataOut rest ++ close j)
         → Reach
         (theScene
         (theState (theRegisters ow ct tm cd lu ph sy (length rest + length (j .beyond)) ds sr) (theStatus x c m l e Nothing) q
@@ -172,7 +169,7 @@ module _ (j : Job) where
         → Left wt d q got hp
         → Bytes v
         → n ≡ length (j .beyond)
-        → Tale log (item MessageIn 0x00 ∷ [])
+        → Tale (story j) log (item MessageIn 0x00 ∷ [])
         → Reach
         (theScene
         (theState (theRegisters ow ct tm cd (j .status) 0x50 sy n ds sr) (theStatus x c m l e Nothing) q (theTransfer TransferWithAtn d false)

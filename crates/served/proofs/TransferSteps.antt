@@ -24,18 +24,18 @@ use Rattle.chip.specs.declared.Connection.{Connection}
 use Rattle.chip.specs.declared.Stage.the-variants.{SendCommand, Body}
 use Rattle.chip.specs.declared.Phase.the-variants.{DataIn, CommandOut, MessageOut}
 use Rattle.image.specs.Ok.{Bytes}
-use Rattle.story.specs.Story.{Item, item, items, Way, inward, outward, wayPhase, Job, identifies, close, Proper}
+use Rattle.story.specs.Story.{Item, item, items, Way, inward, outward, wayPhase, Job, identifies, close, Proper, story}
 use Rattle.story.specs.Hosts.{Access, get, Note, note, Host, countGets, byTransfer}
 use Rattle.story.specs.Schedule.{Target, Scene, bus, access, passing}
 use Rattle.story.specs.Demand.{incomingData}
 use Rattle.served.proofs.Opening.{steps}
 use Rattle.served.proofs.Time.{isSelecting, still, spare-on, spare-less, spared-at}
 use Rattle.served.proofs.Going.{one-out, owed-out, sending-can, one-more}
-use Rattle.served.proofs.Parts.{theScene, before, aimed, coded, taken, sent, look, seen, ready, Plays, over, puts, gets, stored-is}
+use Rattle.served.proofs.Parts.{theScene, before, aimed, coded, taken, sent, look, seen, ready, Plays, over, puts, gets, stored-is, Tale, onto}
 use Rattle.served.proofs.Queue.{none-lined, empty-none, empty-some, room-is, waits-is, front-is, popped, pushed}
 use Rattle.served.proofs.Small.{length-snoc, items-snoc, one-less, bytes-tail, tail-bytes, next-byte, no-bytes, no-code, polls-look, polls-quiet, polls-drained, polls-up, small-address, some-snoc, waiting-some, can-pop, can-room, can-not, unfixed, drained}
 use Rattle.served.proofs.Stages.{stage-identify, stage-status, stage-next, stage-full, size-small, expects-after}
-use Rattle.served.proofs.TransferScenes.{CommandPhase, first, later, body, late, Set, Hands, reads, writes, Tale, Coming, some, none, Finals, finalNotes, Closes, reading, resting, Reach, loads, seeks, greets, commands, comes, goes, statuses, ends, told, calm, gone, rests}
+use Rattle.served.proofs.TransferScenes.{CommandPhase, first, later, body, late, Set, Hands, reads, writes, Coming, some, none, Finals, finalNotes, Closes, reading, resting, Reach, loads, seeks, greets, commands, comes, goes, statuses, ends, told, calm, gone, rests}
 
 command-at : (had : List ℕ) (b : ℕ) (rest command behind cd : List ℕ) → had ++ (b ∷ rest) ≡ command → cd ≡ command ++ behind
     → getD cd (length had) 0 ≡ b
@@ -72,13 +72,10 @@ module _ (j : Job) (pr : Proper j) where
   unfolding identify
   identify-is s = rw (s .unit, s .er, small-lun, small-lun)
 
-  onto : {log l : List Item} {i : Item} → Tale j log (i ∷ l) → Tale j (log ++ (i ∷ [])) l
-  onto {log = log} {l = l} {i = i} t = record { whole = append-assoc log (i ∷ []) l ∙ t .whole }
-
   opening-tale : {w : Way} {v : List ℕ} → Hands j w (j .moved) v
-      → Tale j (item MessageOut (identifies j) ∷ []) (items CommandOut (j .command) ++ (items (wayPhase w) (j .moved) ++ close j))
-  opening-tale (reads e f) = record { whole = rw e }
-  opening-tale (writes e f g) = record { whole = rw e }
+      → Tale (story j) (item MessageOut (identifies j) ∷ []) (items CommandOut (j .command) ++ (items (wayPhase w) (j .moved) ++ close j))
+  opening-tale (reads e f) = record { all = rw e }
+  opening-tale (writes e f g) = record { all = rw e }
 
   none-in : {w : Way} {v : List ℕ} → Hands j w [] v → incomingData (j .way) (j .moved) ≡ []
   none-in (reads e f) = rw (e, ← f)
@@ -175,10 +172,10 @@ module _ (j : Job) (pr : Proper j) where
       )
       (goes fifo rest give w s (polls-up (λ k. k) (can-pop y fifo give) p) (popped n) (one-out i .1) (expects-after (length rest) _ ph _ e) (onto t))
   bus-step (statuses p (some [] w n i) b z t) =
-      rw (stage-status _, empty-none n, t .whole) (told (no-code p) (drained (empty-none n)) (all-read w i) b z)
+      rw (stage-status _, empty-none n, t .all) (told (no-code p) (drained (empty-none n)) (all-read w i) b z)
   bus-step (statuses p (some (x ∷ fifo) w n i) b z t) =
-      rw (stage-status _, empty-some n, t .whole) (ends fifo p w n i b z)
-  bus-step (statuses p (none e) b z t) = rw (stage-status _, t .whole) (told (no-code p) unfixed (none-read e) b z)
+      rw (stage-status _, empty-some n, t .all) (ends fifo p w n i b z)
+  bus-step (statuses p (none e) b z t) = rw (stage-status _, t .all) (told (no-code p) unfixed (none-read e) b z)
   bus-step (ends fifo p w n i b z) = ends fifo p w n i b z
   bus-step (told p q e b z) = told p q e b z
   bus-step (calm k unfixed e b) = gone (still-closes k) unfixed e b

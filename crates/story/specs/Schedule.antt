@@ -15,14 +15,12 @@ use mathlib.Core.Path.{_≡_}
 use mathlib.Core.Bool.{Bool, true, false}
 use mathlib.Core.List.{List, [], _∷_, _++_}
 use Prim.Native.Nat.{ℕ, suc, _-_}
-use lib.Dec.{ltb}
+use lib.Dec.{eqb, ltb}
 use Rattle.chip.specs.Choice.{pick}
-use Rattle.chip.specs.Answers.{value}
+use Rattle.chip.specs.Answers.{number, value}
 use Rattle.chip.specs.Phases.{phaseNumber, comesIn}
 use Rattle.chip.specs.Calls.{Call, pointer, auxiliary, register, time, answer, request, free, Outcome}
 use Rattle.chip.specs.declared.State.{State}
-use Rattle.chip.specs.declared.Answer.{Answer}
-use Rattle.chip.specs.declared.Answer.the-variants.{Done, Held, OutOfPlace, BadNumber, Blind, CommandIgnored, ReselectionIgnored, NoDataNow, Reported}
 use Rattle.chip.specs.declared.Phase.{Phase}
 use Rattle.chip.specs.declared.Connection.{Connection}
 use Rattle.chip.specs.declared.Connection.the-variants.{Disconnected, Selecting, Waiting, Connected}
@@ -45,20 +43,9 @@ pub record Scene : Type 0 where
   pub host : Host
   pub target : Target
 
-abbrev pub isDone : Answer → Bool
-isDone (Done v) = true
-isDone Held = false
-isDone OutOfPlace = false
-isDone BadNumber = false
-isDone Blind = false
-isDone CommandIgnored = false
-isDone ReselectionIgnored = false
-isDone NoDataNow = false
-isDone Reported = false
-
 -- a call was answered Done
 unfoldable pub took : Outcome → Bool
-took o = isDone (o .answer)
+took o = eqb (number (o .answer)) 0
 
 unfoldable pub valued : Outcome → ℕ
 valued o = value (o .answer)
