@@ -77,6 +77,11 @@ isIncoming Unfixed = false
 isIncoming In = true
 isIncoming Out = false
 
+abbrev pub isOutgoing : Direction → Bool
+isOutgoing Unfixed = false
+isOutgoing In = false
+isOutgoing Out = true
+
 -- incoming bytes wait for the host
 unfoldable pub unread : State → Bool
 unread s = both (isIncoming (s .transfer .direction)) (not (isEmpty (s .fifo)))

@@ -7,8 +7,9 @@ use native.Mathlib.Omega.{arith}
 use lib.Dec.{eqb, ltb}
 use lib.ListN.{getD}
 use borrow.Author.Tests.{ltb-true}
+use Rattle.chip.proofs.Sizes.{size-most}
 use Rattle.chip.proofs.Cases.{by-pick, by-case}
-use Rattle.chip.specs.SelectAndTransfer.{stageOf, firstStage, nextStage, isCommandPhase, size, sizeOf}
+use Rattle.chip.specs.SelectAndTransfer.{stageOf, firstStage, nextStage, isCommandPhase, size}
 use Rattle.chip.specs.declared.State.{State}
 use Rattle.chip.specs.declared.Stage.{Stage}
 use Rattle.chip.specs.declared.Stage.the-variants.{SendCommand, Body, Elsewhere}
@@ -33,7 +34,5 @@ sendable i phase n h =
     (by-pick Sendable _ tt (by-pick Sendable _ tt (by-pick Sendable _ tt (by-pick Sendable _ tt (by-pick Sendable _ tt tt)))))))))
 
 pub size-small : (s : State) → size s ≤ 12
-unfolding size sizeOf
-size-small s =
-    by-pick (λ (n : ℕ). n ≤ 12) _ (omega arith)
-    (by-pick (λ (n : ℕ). n ≤ 12) _ (omega arith) (by-pick (λ (n : ℕ). n ≤ 12) _ (omega arith) (omega arith)))
+unfolding size
+size-small s = size-most (getD (s .registers .cdb) 0 0)

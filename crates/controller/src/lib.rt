@@ -1,7 +1,7 @@
 // The C entries: an image comes in, one call is made on its state, the image goes out. Nothing is required of the caller's numbers
 // or bytes: an image of another length, bytes that are no state's image and operands out of range are Bad number, with every lent
 // byte as it was. include/am33c93a.h is the C side.
-mod calls; // calls.rt: a call on a state, by its mark
+mod driven; // driven.rt: what a board drives on the bus
 mod finish; // finish.rt: what every entry does last
 mod in_place; // in_place.rt: calls that store only the bytes that change
 
@@ -186,7 +186,7 @@ pub extern "C" fn am33c93a_lines(image: &[u8]) -> u32
     let reading = image::read(image);
     if reading.ok {
         let s = reading.state;
-        return calls::line_result(s);
+        return driven::line_result(s);
     }
     BAD_NUMBER
 }

@@ -132,7 +132,7 @@ fn is_incoming(d: Direction) -> bool
 }
 
 // Data comes in.
-fn incoming(s: State) -> bool
+pub fn incoming(s: State) -> bool
     ensures { λ r. ⌜ r ≡ isIncoming (s .transfer .direction) ⌝ }
 {
     let direction = get::direction(s);

@@ -36,7 +36,8 @@ use Rattle.chip.specs.SelectAndTransfer.{stageOf, size, transferRequest, reques
 use Rattle.chip.specs.Registers.{accessed, stepped, accessedAt, isBlind, readAt, writtenAt, pointerAfter, registerAt, stored, dataRead, dataReadBy, dataWritten, dataWrittenBy}
 use Rattle.chip.specs.Events.{requested, requestedBy, requestedConnected, servedBy, remembered}
 use Rattle.image.proofs.Tests.{both-left, both-right}
-use Rattle.quick.specs.Quick.{isPlain, readsData, writesBy, writesData, isUnderWay, isBody, isOutgoing, expectsData, carriesIn, carriesOut, takesByte, sendsByte}
+use Rattle.chip.specs.Interrupts.{isOutgoing}
+use Rattle.quick.specs.Quick.{isPlain, readsData, writesBy, writesData, isUnderWay, isBody, expectsData, carriesIn, carriesOut, takesByte, sendsByte}
 
 pub unless : (a b : Bool) → pick a false b ≡ true → (a ≡ false) × (b ≡ true)
 unfolding pick

@@ -15,7 +15,7 @@ use Rattle.chip.specs.declared.Phase.the-variants.{DataOut, DataIn}
 use Rattle.chip.specs.Phases.{isNoted}
 use Rattle.chip.specs.Fifo.{isEmpty, hasRoom}
 use Rattle.chip.specs.Commands.{isConnected}
-use Rattle.chip.specs.Interrupts.{busy, ends, unread, isIncoming}
+use Rattle.chip.specs.Interrupts.{busy, ends, unread, isIncoming, isOutgoing}
 use Rattle.chip.specs.TransferInfo.{dbr}
 use Rattle.chip.specs.SelectAndTransfer.{stageOf, size}
 
@@ -52,11 +52,6 @@ isBody Disconnecting = false
 isBody Reselected = false
 isBody AfterStatus = false
 isBody Elsewhere = false
-
-abbrev pub isOutgoing : Direction → Bool
-isOutgoing Unfixed = false
-isOutgoing In = false
-isOutgoing Out = true
 
 -- a Select-And-Transfer expects data
 unfoldable pub expectsData : Bool → State → Bool

@@ -7,15 +7,15 @@ ghost use mathlib.Core.Path.{_≡_};
 ghost use Rattle.chip.specs.Choice.{both};
 ghost use Rattle.chip.specs.Commands.{isConnected};
 ghost use Rattle.chip.specs.Fifo.{hasRoom, isEmpty};
-ghost use Rattle.chip.specs.Interrupts.{isIncoming};
-ghost use Rattle.quick.specs.Quick.{carriesIn, carriesOut, expectsData, isBody, isOutgoing, isPlain, isUnderWay, readsData, sendsByte, takesByte, writesBy, writesData};
-use chip::Connection;
+ghost use Rattle.chip.specs.Interrupts.{isIncoming, isOutgoing};
+ghost use Rattle.quick.specs.Quick.{carriesIn, carriesOut, expectsData, isBody, isPlain, isUnderWay, readsData, sendsByte, takesByte, writesBy, writesData};
 use chip::Direction;
 use chip::Phase;
 use chip::Running;
 use chip::Stage;
 use chip::State;
 use combination::stage;
+use commands::table;
 use endings::fifo;
 use endings::interrupts;
 use state::get;
@@ -66,22 +66,11 @@ pub fn writes_data(s: State) -> bool
     false
 }
 
-fn is_connected(c: Connection) -> bool
-    ensures { λ r. ⌜ r ≡ isConnected c ⌝ }
-{
-    match c {
-        Connection::Disconnected => false,
-        Connection::Selecting => false,
-        Connection::Waiting => false,
-        Connection::Connected => true,
-    }
-}
-
 fn connected(s: State) -> bool
     ensures { λ r. ⌜ r ≡ isConnected (s .wire .connection) ⌝ }
 {
     let connection = get::connection(s);
-    is_connected(connection)
+    table::is_connected(connection)
 }
 
 // The low byte of the count can be lowered, and the byte that crosses is not the last.
@@ -130,16 +119,6 @@ fn expects_data(identifies: bool, s: State) -> bool
     is_body(stage::stage_of(identifies, s.registers.phase, stage::size(s)))
 }
 
-fn is_incoming(d: Direction) -> bool
-    ensures { λ r. ⌜ r ≡ isIncoming d ⌝ }
-{
-    match d {
-        Direction::Unfixed => false,
-        Direction::In => true,
-        Direction::Out => false,
-    }
-}
-
 fn is_outgoing(d: Direction) -> bool
     ensures { λ r. ⌜ r ≡ isOutgoing d ⌝ }
 {
@@ -148,13 +127,6 @@ fn is_outgoing(d: Direction) -> bool
         Direction::In => false,
         Direction::Out => true,
     }
-}
-
-fn incoming(s: State) -> bool
-    ensures { λ r. ⌜ r ≡ isIncoming (s .transfer .direction) ⌝ }
-{
-    let direction = get::direction(s);
-    is_incoming(direction)
 }
 
 fn outgoing(s: State) -> bool
@@ -167,7 +139,7 @@ fn outgoing(s: State) -> bool
 fn expects_in(identifies: bool, s: State) -> bool
     ensures { λ r. ⌜ r ≡ both (isIncoming (s .transfer .direction)) (expectsData identifies s) ⌝ }
 {
-    if incoming(s) {
+    if interrupts::incoming(s) {
         return expects_data(identifies, s);
     }
     false

@@ -31,7 +31,8 @@ use Rattle.chip.specs.declared.Connection.{Connection}
 use Rattle.chip.specs.declared.Direction.{Direction}
 use Rattle.chip.specs.declared.Noted.{Noted}
 use Rattle.chip.proofs.Cases.{by-pick, by-case, both-first, both-second, either-first, either-second, either-last}
-use Rattle.reached.specs.Sound.{isOutgoing, Placed, apart, joined, unfixed, none, Shape, idle, selects, waits, transfers, informs, ending, readOut, Transfers, with-atn, without-atn, transfer, info, Selects, six, seven}
+use Rattle.chip.specs.Interrupts.{isOutgoing}
+use Rattle.reached.specs.Sound.{Placed, apart, joined, unfixed, none, Shape, idle, selects, waits, transfers, informs, ending, readOut, Transfers, with-atn, without-atn, transfer, info, Selects, six, seven}
 use Rattle.reached.proofs.Fifos.{Whole, none-whole}
 use Rattle.reached.proofs.Shapes.{Numbered, Good, so, Fine, being, clash, empty-way, raised, ended, transfers-run, moves-run, selects-run, transfers-selects}
 

@@ -25,7 +25,8 @@ use Rattle.chip.specs.declared.Connection.the-variants.{Connected}
 use Rattle.chip.specs.declared.Direction.{Direction}
 use Rattle.chip.specs.declared.Direction.the-variants.{Unfixed, In, Out}
 use Rattle.chip.specs.declared.Noted.{Noted}
-use Rattle.reached.specs.Sound.{isOutgoing, Way, unfixed, incoming, outgoing, isUnread, Placed, apart, joined, Shape, idle, selects, waits, transfers, informs, ending, readOut, with-atn, without-atn, Moves, transfer, info, Sound}
+use Rattle.chip.specs.Interrupts.{isOutgoing}
+use Rattle.reached.specs.Sound.{Way, unfixed, incoming, outgoing, isUnread, Placed, apart, joined, Shape, idle, selects, waits, transfers, informs, ending, readOut, with-atn, without-atn, Moves, transfer, info, Sound}
 use Rattle.reached.specs.Facts.{isReadOut, isSelect, Runs, Facts}
 use Rattle.reached.proofs.Shapes.{clash, drained-way, transfers-run, moves-run}
 use Rattle.reached.proofs.Laws.{reached}

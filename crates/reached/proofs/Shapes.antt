@@ -28,7 +28,8 @@ use Rattle.chip.specs.declared.Direction.{Direction}
 use Rattle.chip.specs.declared.Direction.the-variants.{Unfixed, In, Out}
 use Rattle.chip.specs.declared.Noted.{Noted}
 use Rattle.chip.proofs.Cases.{by-pick, by-case}
-use Rattle.reached.specs.Sound.{Placed, Way, unfixed, incoming, outgoing, Drained, none, out, isUnread, isOutgoing, idle, ending, Shaped, Transfers, with-atn, without-atn, Moves, transfer, info, Selects, six, seven, eight, nine}
+use Rattle.chip.specs.Interrupts.{isOutgoing}
+use Rattle.reached.specs.Sound.{Placed, Way, unfixed, incoming, outgoing, Drained, none, out, isUnread, idle, ending, Shaped, Transfers, with-atn, without-atn, Moves, transfer, info, Selects, six, seven, eight, nine}
 use Rattle.reached.proofs.Fifos.{Whole, dropped-whole}
 
 pub record Numbers (cdb : List ℕ) (n : ℕ) (own : Identity) : Type 0 where

@@ -18,7 +18,8 @@ use Rattle.chip.specs.declared.Running.{Running}
 use Rattle.chip.specs.declared.Running.the-variants.{Idle, SelectWithAtn, SelectWithoutAtn, TransferWithAtn, TransferWithoutAtn, TransferInfo}
 use Rattle.chip.specs.declared.Connection.{Connection}
 use Rattle.chip.specs.declared.Connection.the-variants.{Disconnected, Selecting, Waiting, Connected}
-use Rattle.reached.specs.Sound.{isOutgoing, Transfers, Selects}
+use Rattle.chip.specs.Interrupts.{isOutgoing}
+use Rattle.reached.specs.Sound.{Transfers, Selects}
 
 abbrev pub isReadOut : Pending → Bool
 isReadOut Nothing = false

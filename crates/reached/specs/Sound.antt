@@ -8,7 +8,6 @@
 --   Selects     one of 06 to 09
 --   Way         where no way is fixed, no byte waits; going out, no more wait than are left
 --   Drained     no incoming byte waits: none at all, or an outgoing FIFO that holds no more than are left
---   isOutgoing  the way is out
 --   isUnread    incoming bytes wait
 -- The image's form enforces `ok`, and of the shapes only that no state has INT and an ending: one byte says which is pending. An
 -- image of any other combination is valid, and this room says that no list of calls comes to one that is not among the shapes.
@@ -17,7 +16,7 @@ use mathlib.Core.Bool.{Bool, true, false, not}
 use Prim.Native.Nat.{ℕ, _≤_}
 use Rattle.chip.specs.Choice.{pick, both}
 use Rattle.chip.specs.Fifo.{isEmpty}
-use Rattle.chip.specs.Interrupts.{isEnding, isIncoming}
+use Rattle.chip.specs.Interrupts.{isEnding, isIncoming, isOutgoing}
 use Rattle.chip.specs.Commands.{wayOf}
 use Rattle.chip.specs.Calls.{Call, Outcome}
 use Rattle.chip.specs.declared.State.{State}
@@ -32,11 +31,6 @@ use Rattle.chip.specs.declared.Direction.{Direction}
 use Rattle.chip.specs.declared.Direction.the-variants.{Unfixed, In, Out}
 use Rattle.chip.specs.declared.Noted.{Noted}
 use Rattle.image.specs.Ok.{Ok}
-
-abbrev pub isOutgoing : Direction → Bool
-isOutgoing Unfixed = false
-isOutgoing In = false
-isOutgoing Out = true
 
 abbrev pub isUnread : Direction → Fifo → Bool
 isUnread d q = both (isIncoming d) (not (isEmpty q))

@@ -47,10 +47,10 @@ abbrev pub theState : Registers → Status → Fifo → Transfer → Wire → St
 theState r s q t w = record { registers = r; status = s; fifo = q; transfer = t; wire = w }
 
 abbrev pub theHost : List Access → Bool → Phase → List ℕ → List Item → List Note → Host
-theHost l f p v t n = record { todo = l; pointed = f; phase = p; give = v; got = t; noted = n }
+theHost l f p v t n = record { ahead = l; pointed = f; phase = p; give = v; got = t; noted = n }
 
 abbrev pub theTarget : Place → ℕ → List Item → List Item → Target
-theTarget p w l t = record { place = p; patience = w; log = l; todo = t }
+theTarget p w l t = record { place = p; patience = w; log = l; ahead = t }
 
 abbrev pub theScene : State → Host → Target → Scene
 theScene s h t = record { chip = s; host = h; target = t }
@@ -109,8 +109,8 @@ pub data Plays (after : List Access) (Goal : Registers → List Note → Type 0)
       → Plays after Goal (get a ∷ l) r n
 
 -- what has crossed and what is still to cross are the whole story
-pub record Tale (whole log todo : List Item) : Type 0 where
-  pub all : log ++ todo ≡ whole
+pub record Tale (whole log ahead : List Item) : Type 0 where
+  pub all : log ++ ahead ≡ whole
 
 pub onto : {whole log l : List Item} {i : Item} → Tale whole log (i ∷ l) → Tale whole (log ++ (i ∷ [])) l
 onto {log = log} {l = l} {i = i} t = record { all = append-assoc log (i ∷ []) l ∙ t .all }

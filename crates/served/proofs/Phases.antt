@@ -8,6 +8,7 @@ use mathlib.Core.List.{List, [], _∷_, _++_, append-nil}
 use Prim.Native.Nat.{ℕ, zero, suc, _+_, _%_, _*_, _<_}
 use native.Mathlib.Omega.{arith}
 use lib.ListN.{length, getD}
+use Rattle.chip.proofs.Sizes.{size-most}
 use Rattle.chip.specs.Lines.{identify, bit}
 use Rattle.chip.specs.Phases.{isMessageIn, samePhase}
 use Rattle.chip.specs.declared.Phase.{Phase}
@@ -16,7 +17,6 @@ use Rattle.image.specs.Ok.{Bytes}
 use Rattle.story.specs.Story.{Item, item, items, Way, inward, outward, wayPhase, Job, identifies, close, story, Proper}
 use Rattle.story.specs.Hosts.{Note}
 use Rattle.served.proofs.Small.{no-bytes, bytes-tail}
-use Rattle.served.proofs.Stages.{size-small}
 use Rattle.served.proofs.PhaseScenes.{Seg, seg, flat, notesAfter, countNotes, Fits, Good, last, more}
 
 -- by the way of the data, the command and the data
@@ -91,7 +91,7 @@ module _ (j : Job) (pr : Proper j) (whole : List Item) (total : List Note) where
   command-fits c cmd e =
       record {
         count = omega (arith, ap length e);
-        small = omega (arith, pr .command-sized, size-small (getD (j .command) 0 0));
+        small = omega (arith, pr .command-sized, size-most (getD (j .command) 0 0));
         hand = λ f. e ∙ sym (append-nil (c ∷ cmd));
         bytes = subst (λ (l : List ℕ). Bytes l) e (pr .command-bytes);
         sent = pr .command-bytes;

@@ -1,6 +1,5 @@
 -- What the command phase register stands for on the way through a command.
 --   stage-identify, stage-next, stage-full, stage-data, stage-status   at 10h, while command bytes are taken, at the size, 46h, 50h
---   size-small     a command has at most 12 bytes
 use mathlib.Core.Path.{_≡_, refl, _∙_}
 use mathlib.Core.Bool.{Bool, true, false}
 use Prim.Native.Nat.{ℕ, suc, _+_, _-_, _/_, _≤_, _<_}
@@ -23,16 +22,6 @@ stage-status n = refl
 pub stage-data : (n : ℕ) → stageOf true 0x46 n ≡ AfterData
 unfolding stageOf isCommandPhase pick both
 stage-data n = refl
-
-pub size-small : (b : ℕ) → sizeOf b ≤ 12
-unfolding sizeOf pick
-size-small b = go (eqb (b / 32) 0) (eqb (b / 32) 1) (eqb (b / 32) 5)
-  where
-    go : (u v w : Bool) → pick u 6 (pick v 10 (pick w 12 0)) ≤ 12
-    go true v w = omega arith
-    go false true w = omega arith
-    go false false true = omega arith
-    go false false false = omega arith
 
 stage-more : (y n : ℕ) → y < 15 → stageOf true (0x31 + y) n ≡ nextStage (suc y) n
 unfolding stageOf isCommandPhase pick both

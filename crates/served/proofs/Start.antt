@@ -10,6 +10,7 @@ use native.Mathlib.Omega.{arith}
 use lib.ListN.{length, set, getD}
 use lib.Seq.{set-append-seam}
 use borrow.Author.Tests.{lt-ltb, ne-eqb}
+use Rattle.chip.proofs.Sizes.{size-most}
 use Rattle.chip.specs.Choice.{pick, either}
 use Rattle.chip.specs.State.{fresh}
 use Rattle.chip.specs.Lines.{bit, isOn}
@@ -29,7 +30,8 @@ use Rattle.chip.specs.declared.Pending.the-variants.{Nothing, Interrupt, Ending
 use Rattle.chip.specs.declared.Direction.{Direction}
 use Rattle.chip.specs.declared.Direction.the-variants.{Unfixed, In, Out}
 use Rattle.image.specs.Ok.{Bytes}
-use Rattle.reached.specs.Sound.{Sound, Shape, with-atn, without-atn, transfer, info, isOutgoing, joined}
+use Rattle.chip.specs.Interrupts.{isOutgoing}
+use Rattle.reached.specs.Sound.{Sound, Shape, with-atn, without-atn, transfer, info, joined}
 use Rattle.reached.specs.Sound as Sound
 use Rattle.reached.proofs.Laws.{reached}
 use Rattle.story.specs.Story.{Item, Job, loaded, Proper}
@@ -39,7 +41,6 @@ use Rattle.story.specs.Demand.{Start, lived}
 use Rattle.served.proofs.Parts.{theRegisters, storedIn, Plays, over, puts}
 use Rattle.served.proofs.Small.{length-snoc, bytes-tail, Quiet, unfixed, drained}
 use Rattle.served.proofs.PhaseFacts.{written-count, high-byte, low-byte}
-use Rattle.served.proofs.Stages.{size-small}
 use Rattle.served.proofs.TransferScenes as A
 use Rattle.served.proofs.PhaseScenes as B
 
@@ -179,7 +180,7 @@ module _ (j : Job) (pr : Proper j) where
       }))))))))
 
   size-at-most : length (j .command) ≤ 12
-  size-at-most = omega (arith, pr .command-sized, size-small (getD (j .command) 0 0))
+  size-at-most = omega (arith, pr .command-sized, size-most (getD (j .command) 0 0))
 
   pub transfer-plays : (r : Registers) → length (r .cdb) ≡ 12
       → Plays (put 0x18 0x08 ∷ []) (A.Ready j) (transferLoads j ++ (put 0x18 0x08 ∷ [])) r []

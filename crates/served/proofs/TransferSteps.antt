@@ -12,6 +12,7 @@ use lib.ListN.{length, getD, length-append}
 use lib.Seq.{getD-append-seam}
 use borrow.Author.Tests.{lt-ltb, eq-eqb, ne-eqb, lt-leb, ltb-true}
 use Rattle.chip.proofs.Cases.{true-or-false}
+use Rattle.chip.proofs.Sizes.{size-most}
 use Rattle.chip.specs.Choice.{pick}
 use Rattle.chip.specs.Calls.{step}
 use Rattle.chip.specs.Lines.{isOn, identify}
@@ -34,7 +35,7 @@ use Rattle.served.proofs.Going.{one-out, owed-out, sending-can, one-mor
 use Rattle.served.proofs.Parts.{theScene, before, aimed, coded, taken, sent, look, seen, ready, Plays, over, puts, gets, stored-is, Tale, onto}
 use Rattle.served.proofs.Queue.{none-lined, empty-none, empty-some, room-is, waits-is, front-is, popped, pushed}
 use Rattle.served.proofs.Small.{length-snoc, items-snoc, one-less, bytes-tail, tail-bytes, next-byte, no-bytes, no-code, polls-look, polls-quiet, polls-drained, polls-up, small-address, some-snoc, waiting-some, can-pop, can-room, can-not, unfixed, drained}
-use Rattle.served.proofs.Stages.{stage-identify, stage-status, stage-next, stage-full, size-small, expects-after}
+use Rattle.served.proofs.Stages.{stage-identify, stage-status, stage-next, stage-full, expects-after}
 use Rattle.served.proofs.TransferScenes.{CommandPhase, first, later, body, late, Set, Hands, reads, writes, Coming, some, none, Finals, finalNotes, Closes, reading, resting, Reach, loads, seeks, greets, commands, comes, goes, statuses, ends, told, calm, gone, rests}
 
 command-at : (had : List ℕ) (b : ℕ) (rest command behind cd : List ℕ) → had ++ (b ∷ rest) ≡ command → cd ≡ command ++ behind
@@ -50,20 +51,17 @@ module _ (j : Job) (pr : Proper j) where
   size-is : {cd : List ℕ} {lu src : ℕ} → Set j cd lu src → sizeOf (getD cd 0 0) ≡ length (j .command)
   size-is {cd = cd} s = ap sizeOf (first-of (j .command) (s .behind) cd (pr .command-some) (s .cdb)) ∙ sym (pr .command-sized)
 
-  size-most : {cd : List ℕ} {lu src : ℕ} → Set j cd lu src → sizeOf (getD cd 0 0) ≤ 12
-  size-most {cd = cd} s = size-small (getD cd 0 0)
-
   pub next-is : {cd : List ℕ} {lu src : ℕ} (ph : ℕ) (had : List ℕ) (b : ℕ) (rest : List ℕ) → Set j cd lu src → CommandPhase ph (length had)
       → had ++ (b ∷ rest) ≡ j .command → stageOf true ph (sizeOf (getD cd 0 0)) ≡ SendCommand (length had)
-  next-is ph had b rest s q e =
+  next-is {cd = cd} ph had b rest s q e =
       let n : length had + suc (length rest) ≡ length (j .command) = sym (length-append had (b ∷ rest)) ∙ ap length e in
-      stage-next ph (length had) _ q (omega (arith, size-is s)) (size-most s)
+      stage-next ph (length had) _ q (omega (arith, size-is s)) (size-most (getD cd 0 0))
 
   pub full-is : {cd : List ℕ} {lu src : ℕ} (ph : ℕ) (had : List ℕ) → Set j cd lu src → CommandPhase ph (length had) → had ++ [] ≡ j .command
       → stageOf true ph (sizeOf (getD cd 0 0)) ≡ Body
-  full-is ph had s q e =
+  full-is {cd = cd} ph had s q e =
       let n : length had ≡ length (j .command) = ap length (sym (append-nil had) ∙ e) in
-      stage-full ph (length had) _ q (omega (arith, size-is s)) (omega (arith, size-is s, pr .command-some)) (size-most s)
+      stage-full ph (length had) _ q (omega (arith, size-is s)) (omega (arith, size-is s, pr .command-some)) (size-most (getD cd 0 0))
 
   small-lun : j .unit % 8 ≡ j .unit
   small-lun = omega (arith, pr .unit-small)

@@ -80,7 +80,7 @@ module _ (does : Call → State → Outcome) where
         record {
           chip = s;
           host = starting g;
-          target = record { place = calling; patience = patience; log = []; todo = story j };
+          target = record { place = calling; patience = patience; log = []; ahead = story j };
         }
 
     pub record Finished (g : Program) (c : Scene) : Type 0 where

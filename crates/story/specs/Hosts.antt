@@ -32,7 +32,7 @@ pub data Note : Type 0 where
   note : (address value : ℕ) → Note
 
 pub record Host : Type 0 where
-  pub todo : List Access  -- the accesses that it is about to make; none: it looks at auxiliary status
+  pub ahead : List Access  -- the accesses that it is about to make; none: it looks at auxiliary status
   pub pointed : Bool  -- the pointer is set for the first of them
   pub phase : Phase  -- the phase that it serves
   pub give : List ℕ  -- what it still has to send
@@ -48,12 +48,12 @@ pub record Program : Type 0 where
 -- a host at the start of its program
 abbrev pub starting : Program → Host
 starting g =
-    record { todo = g .first; pointed = false; phase = g .phase; give = g .give; got = []; noted = [] }
+    record { ahead = g .first; pointed = false; phase = g .phase; give = g .give; got = []; noted = [] }
 
 -- the accesses that come next, the pointer not yet set for them
 unfoldable pub planned : List Access → Host → Host
 planned l h =
-    record { todo = l; pointed = false; phase = h .phase; give = h .give; got = h .got; noted = h .noted }
+    record { ahead = l; pointed = false; phase = h .phase; give = h .give; got = h .got; noted = h .noted }
 
 abbrev pub addressOf : Access → ℕ
 addressOf (put a b) = a
@@ -89,11 +89,11 @@ asked v p = askedBy (isOn 7 v) (isOn 0 v) p
 
 unfoldable pub noting : Note → Host → Host
 noting n h =
-    record { todo = h .todo; pointed = h .pointed; phase = h .phase; give = h .give; got = h .got; noted = h .noted ++ (n ∷ []) }
+    record { ahead = h .ahead; pointed = h .pointed; phase = h .phase; give = h .give; got = h .got; noted = h .noted ++ (n ∷ []) }
 
 unfoldable pub taking : ℕ → Host → Host
 taking b h =
-    record { todo = h .todo; pointed = h .pointed; phase = h .phase; give = h .give; got = h .got ++ (item (h .phase) b ∷ []); noted = h .noted }
+    record { ahead = h .ahead; pointed = h .pointed; phase = h .phase; give = h .give; got = h .got ++ (item (h .phase) b ∷ []); noted = h .noted }
 
 abbrev pub tail : List ℕ → List ℕ
 tail [] = []
@@ -101,7 +101,7 @@ tail (b ∷ l) = l
 
 unfoldable pub sending : Host → Host
 sending h =
-    record { todo = h .todo; pointed = h .pointed; phase = h .phase; give = tail (h .give); got = h .got; noted = h .noted }
+    record { ahead = h .ahead; pointed = h .pointed; phase = h .phase; give = tail (h .give); got = h .got; noted = h .noted }
 
 -- an access was made, and v is the value that came back: all that a host sees of an answer
 unfoldable pub made : Program → Access → ℕ → Host → Host
@@ -186,7 +186,7 @@ module _ (j : Job) where
   unfoldable pub serving : Phase → Host → Host
   serving p h =
       record {
-        todo = leftGets (h .phase) ++ (countPuts (countFor p) ++ (put 0x18 0x20 ∷ []));
+        ahead = leftGets (h .phase) ++ (countPuts (countFor p) ++ (put 0x18 0x20 ∷ []));
         pointed = false;
         phase = p;
         give = giveFor p;

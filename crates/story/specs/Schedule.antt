@@ -36,7 +36,7 @@ pub record Target : Type 0 where
   pub place : Place
   pub patience : ℕ
   pub log : List Item
-  pub todo : List Item
+  pub ahead : List Item
 
 pub record Scene : Type 0 where
   pub chip : State
@@ -51,14 +51,14 @@ unfoldable pub valued : Outcome → ℕ
 valued o = value (o .answer)
 
 unfoldable pub placed : Place → Target → Target
-placed p t = record { place = p; patience = t .patience; log = t .log; todo = t .todo }
+placed p t = record { place = p; patience = t .patience; log = t .log; ahead = t .ahead }
 
 -- what crossed goes into the log with the byte of the answer: "the byte that crossed"
 unfoldable pub logged : Item → List Item → Target → Target
-logged i l t = record { place = talking; patience = t .patience; log = t .log ++ (i ∷ []); todo = l }
+logged i l t = record { place = talking; patience = t .patience; log = t .log ++ (i ∷ []); ahead = l }
 
 unfoldable pub waiting : ℕ → Target → Target
-waiting n t = record { place = t .place; patience = t .patience - n; log = t .log; todo = t .todo }
+waiting n t = record { place = t .place; patience = t .patience - n; log = t .log; ahead = t .ahead }
 
 -- the byte on the lines while a phase is offered: the Target's own, where the phase comes in
 unfoldable pub shown : Phase → ℕ → ℕ
@@ -96,7 +96,7 @@ module _ (does : Call → State → Outcome) (g : Program) where
 
   unfoldable pub busBy : Place → Scene → Scene
   busBy calling c = offered (placed talking (c .target)) (does answer (c .chip)) c
-  busBy talking c = offering (c .target .todo) c
+  busBy talking c = offering (c .target .ahead) c
   busBy away c = c
 
   abbrev pub bus : Scene → Scene
@@ -134,7 +134,7 @@ module _ (does : Call → State → Outcome) (g : Program) where
   unfoldable pub pointing : Outcome → Scene → Scene
   pointing o c =
       hosted
-      (record { todo = c .host .todo; pointed = true; phase = c .host .phase; give = c .host .give; got = c .host .got; noted = c .host .noted })
+      (record { ahead = c .host .ahead; pointed = true; phase = c .host .phase; give = c .host .give; got = c .host .got; noted = c .host .noted })
       o c
 
   unfoldable pub accessing : Access → List Access → Outcome → Scene → Scene
@@ -146,7 +146,7 @@ module _ (does : Call → State → Outcome) (g : Program) where
   accessBy (x ∷ l) true c = accessing x l (does (callOf x (c .host)) (c .chip)) c
 
   abbrev pub access : Scene → Scene
-  access c = accessBy (c .host .todo) (c .host .pointed) c
+  access c = accessBy (c .host .ahead) (c .host .pointed) c
 
   -- what the host's program has come to; where that is to look, or an access that came of a look, what the current state asks for
   unfoldable pub dueBy : List Access → Scene → List Access
@@ -158,7 +158,7 @@ module _ (does : Call → State → Outcome) (g : Program) where
   dueBy (send ∷ l) c = asked (valued (does auxiliary (c .chip))) (c .host .phase)
 
   abbrev pub due : Scene → List Access
-  due c = dueBy (c .host .todo) c
+  due c = dueBy (c .host .ahead) c
 
   -- the first access that is due is made: the pointer is set, then the register is read or written
   abbrev pub attended : Scene → Scene
@@ -167,7 +167,7 @@ module _ (does : Call → State → Outcome) (g : Program) where
   -- the Target's next move is taken; with the bus free, the host has nothing left to do
   unfoldable pub onward : Place → Scene → Bool
   onward calling c = took (does answer (c .chip))
-  onward talking c = offerTaken (c .target .todo) c
+  onward talking c = offerTaken (c .target .ahead) c
   onward away c = isNone (due c)
 
   pub data Brought : Scene → Type 0 where

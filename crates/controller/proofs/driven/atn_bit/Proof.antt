@@ -1,7 +1,7 @@
--- `controller::calls::atn_bit` meets its contract: each way through the code is the definition's own way.
+-- `controller::driven::atn_bit` meets its contract: each way through the code is the definition's own way.
 use mathlib.Core.Path.{refl}
-use Rattle.controller.proofs.calls.atn_bit.Statement.{statement}
-use Rattle.controller.proofs.calls.atn_bit.Tie as tie
+use Rattle.controller.proofs.driven.atn_bit.Statement.{statement}
+use Rattle.controller.proofs.driven.atn_bit.Tie as tie
 
 returns : tie.Need-returns
 returns c = simp (c .if1 .taken)

@@ -1,7 +1,7 @@
--- `controller::calls::ack_bit` meets its contract: each way through the code is the definition's own way.
+-- `controller::driven::ack_bit` meets its contract: each way through the code is the definition's own way.
 use mathlib.Core.Path.{refl}
-use Rattle.controller.proofs.calls.ack_bit.Statement.{statement}
-use Rattle.controller.proofs.calls.ack_bit.Tie as tie
+use Rattle.controller.proofs.driven.ack_bit.Statement.{statement}
+use Rattle.controller.proofs.driven.ack_bit.Tie as tie
 
 returns : tie.Need-returns
 returns c = simp (c .if1 .taken)

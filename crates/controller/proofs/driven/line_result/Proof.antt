@@ -1,8 +1,8 @@
--- `controller::calls::line_result` meets its contract: each way through the code is the definition's own way.
+-- `controller::driven::line_result` meets its contract: each way through the code is the definition's own way.
 use Rattle.chip.specs.Entries.{lineBits}
 use borrow.Author.Needs.{needs}
-use Rattle.controller.proofs.calls.line_result.Statement.{statement}
-use Rattle.controller.proofs.calls.line_result.Tie as tie
+use Rattle.controller.proofs.driven.line_result.Statement.{statement}
+use Rattle.controller.proofs.driven.line_result.Tie as tie
 
 destination-requires : tie.Need-destination-requires
 destination-requires c κs = search needs
