@@ -26,6 +26,18 @@ pub data Call : Type 0 where
   request : (phase byte parity : ℕ) → Call
   free : Call
 
+-- a number for each kind of call: its place above. 4 and above are the bus events
+abbrev pub kind : Call → ℕ
+kind (pointer m b) = 0
+kind auxiliary = 1
+kind (register m b) = 2
+kind (block m l) = 3
+kind (time n) = 4
+kind answer = 5
+kind (reselection lines) = 6
+kind (request p b q) = 7
+kind free = 8
+
 abbrev pub isMark : ℕ → Bool
 isMark m = ltb m 2
 

@@ -1,11 +1,11 @@
--- The paper's sessions at both sides of each limit, 1 to 8 (the marked ones) and 9, as one table.
+-- The paper's sessions at both sides of each limit, 1 to 8 (the marked ones) and 9, and two of our own, as one table.
 -- A line is a call with the answer that the paper names, or a register with the byte that it shows.
 -- proofs/Sessions.antt has the claim: what the definitions play from a fresh state is the table, line for line.
 use mathlib.Core.List.{List, [], _∷_, _++_}
 use Prim.Native.Nat.{ℕ, zero, suc}
 use Rattle.chip.specs.declared.State.{State}
 use Rattle.chip.specs.declared.Answer.{Answer}
-use Rattle.chip.specs.declared.Answer.the-variants.{Done, Held, BadNumber, Blind, CommandIgnored, ReselectionIgnored, NoDataNow, Reported}
+use Rattle.chip.specs.declared.Answer.the-variants.{Done, Held, OutOfPlace, BadNumber, Blind, CommandIgnored, ReselectionIgnored, NoDataNow, Reported}
 use Rattle.chip.specs.State.{fresh}
 use Rattle.chip.specs.Calls.{Call, pointer, auxiliary, register, time, answer, reselection, request, free, step}
 use Rattle.chip.specs.Registers.{registerAt}
@@ -116,4 +116,13 @@ sessions =
     ++ ((auxiliary ⇒ Done 0x21)
     ∷ reads 0x19 0x11
     ++ ((register 0 0 ⇒ Done 0x12) ∷ (auxiliary ⇒ Done 0x21) ∷ (register 0 0 ⇒ Done 0x13) ∷ (auxiliary ⇒ Done 0x80) ∷ reads 0x17 0x29))))
+    -- our own. The fault that this model is built against: the Target answers when 42h is raised and unread. It is turned away, and so is
+    -- its Request: nobody is connected when the driver reads that nobody answered
+    ∷ (writes 0x02 1
+    ++ (writes 0x18 0x06 ++ ((time 1 ⇒ Done 0) ∷ (answer ⇒ OutOfPlace) ∷ asks 1 0x11 OutOfPlace ∷ reads 0x17 0x42)))
+    -- "Until then BSY stays and bus events are Held, except Time, which is Done without effect.": the byte and the code still come
+    ∷ (informs 1 0x89 13
+    ++ (asks 1 0x11 (Done 0x11)
+    ∷ writes 0x18 0x01
+    ++ ((time 255 ⇒ Done 0) ∷ asks 1 0x12 Held ∷ (auxiliary ⇒ Done 0x21) ∷ reads 0x19 0x11 ++ ((auxiliary ⇒ Done 0x80) ∷ reads 0x17 0x29))))
     ∷ []

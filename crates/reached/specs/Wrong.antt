@@ -7,9 +7,8 @@ use lib.Dec.{eqb}
 use Rattle.chip.specs.Choice.{pick}
 use Rattle.chip.specs.State.{setAck, setRunning, setConnection}
 use Rattle.chip.specs.Interrupts.{interrupted}
-use Rattle.chip.specs.Calls.{Call, Outcome, step}
+use Rattle.chip.specs.Calls.{Call, Outcome, step, kind}
 use Rattle.chip.specs.declared.State.{State}
-use Rattle.refusals.specs.Kinds.{kind}
 
 -- after a call of kind k, as `kind` numbers them, the state is changed by what it was before
 abbrev pub afterwards : ℕ → (State → State → State) → Call → State → Outcome

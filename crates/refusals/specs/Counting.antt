@@ -15,7 +15,7 @@ use lib.Dec.{eqb}
 use Rattle.chip.specs.Count.{left}
 use Rattle.chip.specs.Interrupts.{isRunning}
 use Rattle.chip.specs.Phases.{phaseOf}
-use Rattle.chip.specs.Calls.{Call, Outcome, pointer, auxiliary, register, block, time, answer, reselection, request, free}
+use Rattle.chip.specs.Calls.{Call, Outcome, pointer, auxiliary, register, block, time, answer, reselection, request, free, kind}
 use Rattle.chip.specs.declared.State.{State}
 use Rattle.chip.specs.declared.Answer.{Answer}
 use Rattle.chip.specs.declared.Answer.the-variants.{Done, Held, OutOfPlace, BadNumber, Blind, CommandIgnored, ReselectionIgnored, NoDataNow, Reported}
@@ -24,7 +24,6 @@ use Rattle.chip.specs.declared.Phase.the-variants.{DataOut, DataIn, CommandOut,
 use Rattle.chip.specs.declared.Running.{Running}
 use Rattle.chip.specs.declared.Running.the-variants.{Idle, SelectWithAtn, SelectWithoutAtn, TransferWithAtn, TransferWithoutAtn, TransferInfo}
 use Rattle.refusals.specs.Refusals.{SameCount}
-use Rattle.refusals.specs.Kinds.{kind}
 
 abbrev pub isData : Phase → Bool
 isData DataOut = true

@@ -3,7 +3,6 @@
 --   KindsKept   a step's law: no call gets an answer that its kind does not have
 --   may         the numbers of the answers that a call can get
 --   isAmong     a number is in a list
---   kind        a call's kind, as the place at which `Call` lists it
 use mathlib.Core.Path.{_≡_}
 use mathlib.Core.Bool.{Bool, true, false, _||_}
 use mathlib.Core.List.{List, [], _∷_}
@@ -24,17 +23,6 @@ may answer = 2 ∷ 1 ∷ 0 ∷ []
 may (reselection lines) = 3 ∷ 6 ∷ 2 ∷ 1 ∷ 0 ∷ []
 may (request p b q) = 3 ∷ 2 ∷ 1 ∷ 8 ∷ 0 ∷ []
 may free = 2 ∷ 1 ∷ 0 ∷ []
-
-abbrev pub kind : Call → ℕ
-kind (pointer m b) = 0
-kind auxiliary = 1
-kind (register m b) = 2
-kind (block m l) = 3
-kind (time n) = 4
-kind answer = 5
-kind (reselection lines) = 6
-kind (request p b q) = 7
-kind free = 8
 
 abbrev pub isAmong : ℕ → List ℕ → Bool
 isAmong n [] = false

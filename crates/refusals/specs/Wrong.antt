@@ -20,12 +20,11 @@ use Rattle.chip.specs.State.{setPointer, setLci, setPending}
 use Rattle.chip.specs.Answers.{number}
 use Rattle.chip.specs.Count.{lowered}
 use Rattle.chip.specs.TransferInfo.{takenIn}
-use Rattle.chip.specs.Calls.{Call, Outcome, pointer, auxiliary, register, block, time, answer, reselection, request, free, lentBy, step}
+use Rattle.chip.specs.Calls.{Call, Outcome, pointer, auxiliary, register, block, time, answer, reselection, request, free, lentBy, step, kind}
 use Rattle.chip.specs.declared.State.{State}
 use Rattle.chip.specs.declared.Answer.{Answer}
 use Rattle.chip.specs.declared.Answer.the-variants.{Done, Held}
 use Rattle.chip.specs.declared.Pending.the-variants.{Nothing}
-use Rattle.refusals.specs.Kinds.{kind}
 
 unfoldable pub spoilt : (Call → State → Answer → Bool) → (State → State) → Call → State → Outcome
 spoilt test change c s =

@@ -16,7 +16,7 @@ use lib.ListN.{replicate}
 use Rattle.chip.specs.Choice.{either}
 use Rattle.chip.specs.State.{fresh, setCode, setPending, setPointer, setTimeout, setConnection, setRunning, setDirection, setCount, setFifo}
 use Rattle.chip.specs.Interrupts.{isInterrupt, isEnding}
-use Rattle.chip.specs.Calls.{Call, pointer, auxiliary, register, time, answer, free}
+use Rattle.chip.specs.Calls.{Call, pointer, auxiliary, register, time, answer, free, kind}
 use Rattle.chip.specs.declared.State.{State}
 use Rattle.chip.specs.declared.Pending.the-variants.{Interrupt}
 use Rattle.chip.specs.declared.Connection.the-variants.{Selecting, Connected}
@@ -41,11 +41,11 @@ abbrev unreadAt : ℕ → State
 unreadAt a = setPointer a (setPending Interrupt (setCode 0x16 fresh))
 
 pub hasty-refused : UnreadStatusKept hasty → ⊥
-unfolding everything hasty W.changed W.kind isReset isCommand
+unfolding everything hasty W.changed isReset isCommand
 hasty-refused h = let z : _≡_ {A = ℕ} 0x42 0x16 = h .code-kept (time 0) (unreadAt 0) refl refl in omega arith
 
 pub peeking-refused : UnreadStatusKept peeking → ⊥
-unfolding everything peeking W.changed W.kind readsAt
+unfolding everything peeking W.changed readsAt
 peeking-refused h = clash (h .int-kept auxiliary (unreadAt 0) refl refl) refl
 
 pub soft-refused : UnreadStatusKept soft → ⊥
@@ -53,25 +53,25 @@ unfolding everything soft isReset isCommand
 soft-refused h = clash (h .reset-tells (register 1 0) (setPointer 0x18 fresh) refl) refl
 
 pub mumbling-refused : CodeMovesOnlyByRaising mumbling → ⊥
-unfolding everything mumbling W.changed W.kind
+unfolding everything mumbling W.changed
 mumbling-refused h = clash (h .int-with-code free fresh other-code) refl
   where
     other-code : _≡_ {A = ℕ} 0x85 0x00 → ⊥
     other-code z = omega arith
 
 pub hasty-loses : NoStatusLost hasty → ⊥
-unfolding everything hasty W.changed W.kind isReset isCommand readsAt raised H.history H.noted H.run
+unfolding everything hasty W.changed isReset isCommand readsAt raised H.history H.noted H.run
 hasty-loses h = lost (h .orderly (time 0 ∷ []) (unreadAt 0))
   where
     lost : Orderly 0x16 true (H.raises 0x42 ∷ []) → ⊥
     lost o = elim o [ ]
 
 pub peeking-hides : NoStatusLost peeking → ⊥
-unfolding everything peeking W.changed W.kind isReset isCommand readsAt raised H.history H.noted H.run
+unfolding everything peeking W.changed isReset isCommand readsAt raised H.history H.noted H.run
 peeking-hides h = clash (h .int-is-unread (auxiliary ∷ []) (unreadAt 0)) refl
 
 pub mumbling-lies : NoStatusLost mumbling → ⊥
-unfolding everything mumbling W.changed W.kind isReset isCommand readsAt raised H.history H.noted H.run
+unfolding everything mumbling W.changed isReset isCommand readsAt raised H.history H.noted H.run
 mumbling-lies h = let z : _≡_ {A = ℕ} 0x85 0x00 = h .code-is-last (free ∷ []) fresh in omega arith
 
 pub forgetful-stale : NoStatusLost forgetful → ⊥
@@ -86,7 +86,7 @@ abbrev calling : State
 calling = setTimeout 1 (setConnection Selecting (setRunning SelectWithoutAtn fresh))
 
 pub sluggish-refused : RaisedBecause sluggish → ⊥
-unfolding everything sluggish W.changed W.kind isReset isCommand raised
+unfolding everything sluggish W.changed isReset isCommand raised
 sluggish-refused h = clash (h .complete (time 1) calling 0x42 (B.times-out refl refl refl refl refl)) refl
 
 -- Transfer Info coming in, with a byte left and one unread
@@ -105,13 +105,13 @@ hurried-ends h =
     clash refl (ap isInterrupt (h .complete free filled 0x41 (B.brings-unread (B.cuts-info refl refl refl refl) refl)))
 
 pub meddling-refused : EndingsBegun meddling → ⊥
-unfolding everything meddling W.changed W.kind H.run
+unfolding everything meddling W.changed H.run
 meddling-refused h = since-began (λ c s b. time-ends-nothing b) (h .begun (free ∷ []) 0x42 refl)
 
 pub mistaken-refused : CodesOnlyBy mistaken → ⊥
-unfolding everything mistaken W.changed W.kind isReset isCommand raised H.run
+unfolding everything mistaken W.changed isReset isCommand raised H.run
 mistaken-refused h =
-    let z : _≡_ {A = ℕ} 5 4 = ap W.kind (h .by-time (pointer 1 0x18 ∷ register 1 0x07 ∷ []) answer (record { raises = refl; code = refl }) .1) in
+    let z : _≡_ {A = ℕ} 5 4 = ap kind (h .by-time (pointer 1 0x18 ∷ register 1 0x07 ∷ []) answer (record { raises = refl; code = refl }) .1) in
     omega arith
 
 -- a timeout of 1, a Select, and an Answer
@@ -123,9 +123,9 @@ unfolding isSelection isCommand either
 answered-since = since-last auxiliary (λ s b. clash (b .0) refl) (λ s n. clash refl (n .1))
 
 pub deaf-refused : SelectionsBegun deaf → ⊥
-unfolding everything deaf W.changed W.kind H.run
+unfolding everything deaf W.changed H.run
 deaf-refused h = answered-since (h .begun callsAnswered refl)
 
 pub deaf-times-out : CodesOnlyBy deaf → ⊥
-unfolding everything deaf W.changed W.kind isReset isCommand raised H.run
+unfolding everything deaf W.changed isReset isCommand raised H.run
 deaf-times-out h = answered-since (h .unanswered callsAnswered (time 1) (record { raises = refl; code = refl }))

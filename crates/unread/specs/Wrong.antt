@@ -17,23 +17,11 @@ use Rattle.chip.specs.State.{setCode, setPending}
 use Rattle.chip.specs.Answers.{done, says}
 use Rattle.chip.specs.Interrupts.{settledBy}
 use Rattle.chip.specs.Events.{timedOut}
-use Rattle.chip.specs.Calls.{Call, Outcome, pointer, auxiliary, register, block, time, answer, reselection, request, free, plain, step}
+use Rattle.chip.specs.Calls.{Call, Outcome, kind, plain, step}
 use Rattle.chip.specs.declared.State.{State}
 use Rattle.chip.specs.declared.Pending.the-variants.{Nothing, Ending}
 use Rattle.chip.specs.declared.Answer.the-variants.{Done}
 use Rattle.unread.specs.Status.{isReset, readsAt}
-
--- a number for each kind of call
-unfoldable pub kind : Call → ℕ
-kind (pointer m b) = 0
-kind auxiliary = 1
-kind (register m b) = 2
-kind (block m l) = 3
-kind (time n) = 4
-kind answer = 5
-kind (reselection lines) = 6
-kind (request p b q) = 7
-kind free = 8
 
 unfoldable pub changed : ℕ → (State → State) → Call → State → Outcome
 changed n g c s = pick (eqb (kind c) n) (plain (done 0 (g s))) (step c s)
