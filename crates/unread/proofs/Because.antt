@@ -2,6 +2,7 @@
 --   raised-because   a call raises a code exactly where the table says so, and that code
 --   ending-because   an ending begins exactly where the table says so
 --   brings-row reads-row because-row   what each row says, the step does
+--   Found because-found   what a row finds pending, and brings-quiet of those that end a running command
 use mathlib.Core.Path.{_≡_, refl, ap}
 use mathlib.Core.Bool.{true, false}
 use mathlib.Core.Logic.{_⊎_, inl, inr, ⊎-elim}
@@ -15,10 +16,10 @@ use Rattle.chip.specs.declared.Pending.{Pending}
 use Rattle.chip.specs.declared.Pending.the-variants.{Nothing, Interrupt, Ending, ReadOut}
 use Rattle.unread.specs.Status.{isReset}
 use Rattle.unread.specs.Because as B
-use Rattle.unread.specs.Because.{Quiet, Brings, Begins, ReadsOut, Because, RaisedBecause, EndingBecause}
+use Rattle.unread.specs.Because.{Quiet, Brings, Begins, ReadsLast, ReadsOut, Because, RaisedBecause, EndingBecause}
 use Rattle.chip.proofs.Cases.{by-test}
 use Rattle.unread.proofs.Choosing.{clash}
-use Rattle.unread.proofs.Telling.{plain-int, cleared-int, Standing, Tells, isPlain, silent, moves, selects, settles, begins, raises, reads, resets}
+use Rattle.unread.proofs.Telling.{settles-plain, plain-int, cleared-int, Standing, Tells, isPlain, silent, moves, selects, settles, begins, raises, reads, resets}
 use Rattle.unread.proofs.Told.{told, reset-told}
 use Rattle.unread.proofs.Unread.{raised-from-quiet, raised-sets-int, raised-anew, raised-reset}
 use Rattle.unread.proofs.Asked as A
@@ -41,8 +42,11 @@ brings-row (B.leaves-info {s} q x r e) = rw e at (A.info-free-row s q x r)
 brings-row (B.leaves-transfer {s} q x r e d) = A.leaves-transfer-row s q x r e d
 
 pub reads-row : {c : Call} {s : State} {k : ℕ} → ReadsOut c s k → Ended k false (step c s .state)
-reads-row (B.byte {c} {s} {k} e d w p) = W.byte-row c s k e d w p
-reads-row (B.slice {m} {l} {s} {k} g f d v u p) = W.slice-row m l s k g f d v u p
+reads-row {k = k} h = by-last (h .last) (h .ending)
+  where
+    by-last : {c : Call} {s : State} → ReadsLast c s → s .status .pending ≡ Ending k → Ended k false (step c s .state)
+    by-last (B.byte {c} {s} e d w) p = W.byte-row c s k e d w p
+    by-last (B.slice {m} {l} {s} g f d v u) p = W.slice-row m l s k g f d v u p
 
 pub because-row : {c : Call} {s : State} {k : ℕ} → Because c s k → Raised k (step c s .state)
 because-row (B.brings h u) = brings-row h .raised-now u
@@ -62,9 +66,9 @@ begins-row : {c : Call} {s : State} {k : ℕ} → Begins c s k → step c s .sta
 begins-row (B.brings-unread h u) = brings-row h .read-first u
 begins-row (B.keeps-last {n} {b} {m} {s} l d) = A.last-row n b m s l .read-first d
 
--- every row but Reset's is made with no INT
+-- what a row finds: nothing is pending, or an ending whose last byte is read, or it is Reset's
 
-brings-quiet : {c : Call} {s : State} {k : ℕ} → Brings c s k → Quiet s
+pub brings-quiet : {c : Call} {s : State} {k : ℕ} → Brings c s k → Quiet s
 brings-quiet (B.completes o t g e h) = o .quiet
 brings-quiet (B.overruns o r e) = o .quiet
 brings-quiet (B.saves o t g e h) = o .quiet
@@ -76,20 +80,29 @@ brings-quiet (B.surprises o r w e) = o .quiet
 brings-quiet (B.leaves-info q x r e) = q
 brings-quiet (B.leaves-transfer q x r e d) = q
 
-because-raised : {c : Call} {s : State} {k : ℕ} → Because c s k → (isReset c s ≡ true) ⊎ (interrupted s ≡ false)
-because-raised (B.brings h u) = inr (ap isInterrupt (brings-quiet h))
-because-raised (B.reads (B.byte e d w p)) = inr (ap isInterrupt p)
-because-raised (B.reads (B.slice g f d v u p)) = inr (ap isInterrupt p)
-because-raised (B.resets e) = inl e
-because-raised (B.answers q x t) = inr (ap isInterrupt q)
-because-raised (B.resumes k e w q r x p) = inr (ap isInterrupt q)
-because-raised (B.takes-last l d) = inr (ap isInterrupt (l .offered .quiet))
-because-raised (B.aborts e q r x) = inr (ap isInterrupt q)
-because-raised (B.refuses k e n q r v) = inr (ap isInterrupt q)
-because-raised (B.times-out g q x t l) = inr (ap isInterrupt q)
-because-raised (B.reselects g q f x w) = inr (ap isInterrupt q)
-because-raised (B.frees q x r) = inr (ap isInterrupt q)
-because-raised (B.asks o r f) = inr (ap isInterrupt (o .quiet))
+pub data Found (c : Call) (s : State) (k : ℕ) : Type 0 where
+  quiet : Quiet s → Found c s k
+  reading-out : ReadsOut c s k → Found c s k
+  resetting : isReset c s ≡ true → Found c s k
+
+pub because-found : {c : Call} {s : State} {k : ℕ} → Because c s k → Found c s k
+because-found (B.brings h u) = quiet (brings-quiet h)
+because-found (B.reads h) = reading-out h
+because-found (B.resets e) = resetting e
+because-found (B.answers q x t) = quiet q
+because-found (B.resumes k e w q r x p) = quiet q
+because-found (B.takes-last l d) = quiet (l .offered .quiet)
+because-found (B.aborts e q r x) = quiet q
+because-found (B.refuses k e n q r v) = quiet q
+because-found (B.times-out g q x t l) = quiet q
+because-found (B.reselects g q f x w) = quiet q
+because-found (B.frees q x r) = quiet q
+because-found (B.asks o r f) = quiet (o .quiet)
+
+because-raised : {c : Call} {s : State} {k : ℕ} → Found c s k → (isReset c s ≡ true) ⊎ (interrupted s ≡ false)
+because-raised (quiet q) = inr (ap isInterrupt q)
+because-raised (reading-out h) = inr (ap isInterrupt (h .ending))
+because-raised (resetting e) = inl e
 
 -- sound
 
@@ -98,7 +111,7 @@ reasoned : {c : Call} {s : State} {z : Standing} → Tells c s z → isReset c s
 reasoned (silent a) r i j = clash j i
 reasoned (moves x) r i j = clash j i
 reasoned (selects e q n) r i j = clash j i
-reasoned (settles {q = q} i p x) r i' j = clash j (plain-int q p)
+reasoned (settles {q = q} h) r i j = clash j (plain-int q (settles-plain h))
 reasoned (begins u h x) r i j = clash j refl
 reasoned (raises i h x) r i' j = h
 reasoned {s = s} (reads e a) r i j = clash j (cleared-int (s .status .pending))
@@ -108,7 +121,7 @@ begun : {c : Call} {s : State} {z : Standing} (j : ℕ) → Tells c s z → z .p
 begun j (silent a) e = inl e
 begun j (moves x) e = inl e
 begun j (selects f q n) e = inl e
-begun j (settles i p x) e = clash p (ap isPlain e)
+begun j (settles h) e = clash (settles-plain h) (ap isPlain e)
 begun {c} {s} j (begins {k = k} u h x) e = inr (rw (code-of e) at h)
   where
     code-of : Ending k ≡ Ending j → k ≡ j
@@ -131,7 +144,7 @@ raised-because =
           (λ r. reasoned (told c s .tells) r (raised-from-quiet c s r e) (raised-sets-int c s _ e));
       complete = λ c s k h.
           let i : interrupted (step c s .state) ≡ true = ap isInterrupt (because-row h .int) in
-          ⊎-elim (raised-reset c s (step c s .state) i) (raised-anew c s (step c s .state) i) (because-raised h);
+          ⊎-elim (raised-reset c s (step c s .state) i) (raised-anew c s (step c s .state) i) (because-raised (because-found h));
       code = λ c s k h. because-row h .code;
     }
 

@@ -43,7 +43,7 @@ use Rattle.unread.specs.Because as B
 use Rattle.unread.specs.Because.{Quiet, Brings, Offered, LastMessage, isIdle, isSpent, stage, expects, expectsBody, expectsLate, wants, fits, halts, isBeforeStatus}
 use Rattle.chip.proofs.Cases.{by-pick, by-case, by-test, both-first, both-second}
 use Rattle.unread.proofs.Choosing.{clash, not-first}
-use Rattle.unread.proofs.Telling.{standing, isSelecting, Tells, so, ToldReply, silent, moves, settles, raises, gone, unless-int, ended, brought, quiet-of}
+use Rattle.unread.proofs.Telling.{standing, isSelecting, Tells, so, ToldReply, reads-out, silent, moves, settles, raises, gone, unless-int, ended, brought, quiet-of}
 
 -- Time, Answer, Reselection
 
@@ -383,7 +383,7 @@ module _ (s : State) where
     transfer-free-tells r =
         by-case Leaves _
         (λ e. by-case Leaves _ (λ d. unless-int _ (λ i. brought _ refl refl refl (q i) (B.leaves-transfer (q i) x r e d)))
-        (λ d. by-pick Leaves _ (unless-int _ (λ i. so (settles i refl refl))) (so (moves refl))))
+        (λ d. by-pick Leaves _ (unless-int _ (λ i. so (settles (reads-out (q i))))) (so (moves refl))))
         (λ e. unless-int _ (λ i. brought _ refl refl refl (q i) (B.cuts-transfer (q i) x r e)))
 
     freed-from : (r : Running) → s .transfer .running ≡ r → Leaves (E.freedFrom r s)

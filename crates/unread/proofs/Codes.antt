@@ -31,7 +31,7 @@ use Rattle.unread.specs.Because.{Brings, Begins, ReadsOut, Because, isId
 use Rattle.unread.specs.Codes as C
 use Rattle.unread.specs.Codes.{Raises, Since, EndingsBegun, Unanswered, SelectionsBegun, CodesOnlyBy}
 use Rattle.unread.proofs.Choosing.{clash}
-use Rattle.unread.proofs.Telling.{Standing, standing, isSelecting, Tells, silent, moves, selects, settles, begins, raises, reads, resets, gone, there}
+use Rattle.unread.proofs.Telling.{settles-apart, Standing, standing, isSelecting, Tells, silent, moves, selects, settles, begins, raises, reads, resets, gone, there}
 use Rattle.unread.proofs.Told.{told}
 use Rattle.unread.proofs.Because.{raised-because, ending-because, brings-row, reads-row}
 use Rattle.unread.proofs.Rows as W
@@ -84,7 +84,7 @@ course {s = s} (silent a) h e =
     let x = is-selecting (s .wire .connection) e in (h x, inl (x, a (h x .0)))
 course (moves f) h e = clash e f
 course (selects f q r) h e = ((q, r), inr f)
-course (settles i p f) h e = clash e f
+course (settles f) h e = clash e (settles-apart f)
 course (begins q b f) h e = clash e f
 course (raises i b (gone f)) h e = clash e f
 course {s = s} (raises i b (there f)) h e =
@@ -255,13 +255,9 @@ pub since-began : {f : Call → State → Outcome} {B N : Call → State → Typ
 since-began g (C.now l c b) = g c _ b
 since-began g (C.still l c h n) = since-began g h
 
-reads-pending : {c : Call} {s : State} {k : ℕ} → ReadsOut c s k → s .status .pending ≡ Ending k
-reads-pending (B.byte e d w p) = p
-reads-pending (B.slice g f d v u p) = p
-
 read-out-since : {k : ℕ} (l : List Call) (c : Call) → ReadsOut c (run step l fresh) k
     → Since step (λ d s. EndsBy (reasonOf k) d) (λ d s. s .status .pending ≡ Ending k) l
-read-out-since {k} l c h = since-map (λ d s b. begins-by b) (endings-begun .begun l k (reads-pending h))
+read-out-since {k} l c h = since-map (λ d s b. begins-by b) (endings-begun .begun l k (h .ending))
 
 module _ (l : List Call) (c : Call) {k : ℕ} (h : Raises step l c k) where
   why : ReadsOut c (run step l fresh) k ⊎ Explains (reasonOf k) c (run step l fresh)

@@ -2,123 +2,221 @@
 --   no-status-lost   over every list of calls, from every state
 --   ran              `run` of the step is the chip's `after`
 --   code-after       the code at 17h after any calls from a fresh state is the one raised last, 0 where none was
---   int-after        INT is set exactly while that one waits to be read
+--   owed-after       what is pending is what is owed after them: the code at 17h, where INT is set, or a code to come
 use mathlib.Core.Path.{_≡_, refl, sym, ap, _∙_}
-use mathlib.Core.Bool.{Bool, true, false}
+use mathlib.Core.Bool.{true, false}
 use mathlib.Core.List.{List, [], _∷_, _++_}
 use Prim.Native.Nat.{ℕ}
-use Rattle.chip.specs.Choice.{either}
+use Rattle.chip.specs.Choice.{pick, both, either}
 use Rattle.chip.specs.State.{fresh}
-use Rattle.chip.specs.Interrupts.{interrupted, isInterrupt}
+use Rattle.chip.specs.Interrupts.{interrupted, isInterrupt, isEnding, isRunning, busy, withoutInterrupt}
 use Rattle.chip.specs.Calls.{Call, Outcome, step, after}
 use Rattle.chip.specs.declared.State.{State}
-use Rattle.unread.specs.Status.{isReset, readsAt}
+use Rattle.chip.specs.declared.Pending.{Pending}
+use Rattle.chip.specs.declared.Pending.the-variants.{Nothing, Interrupt, Ending, ReadOut}
+use Rattle.unread.specs.Status.{isReset, isDisconnect, readsAt, raised}
 use Rattle.unread.specs.History as H
-use Rattle.unread.specs.History.{Happening, noted, history, run, lastCode, isUnread, Orderly, isRaising, hasRead, NoStatusLost}
-use Rattle.chip.proofs.Cases.{by-case}
+use Rattle.unread.specs.History.{Happening, Owed, nothing, unread, coming, owedBy, isComing, noted, readBy, begunBy, history, run, lastCode, owedAfter, Orderly, Follows, isRaising, hasRead, NoStatusLost}
+use Rattle.chip.proofs.Cases.{by-case, both-first, both-second, either-rest}
 use Rattle.unread.proofs.Choosing.{clash}
-use Rattle.unread.proofs.Telling.{plain-int, cleared-int, Standing, Tells, silent, moves, selects, settles, begins, raises, reads, resets}
-use Rattle.unread.proofs.Told.{told, reset-told, ReadTold, blind, read, status-read}
-use Rattle.unread.proofs.Unread.{raised-from-quiet, raised-sets-int, raised-anew}
+use Rattle.unread.proofs.Telling.{disconnects, reads-out, has-read, Standing, Tells, silent, moves, selects, settles, begins, raises, reads, resets}
+use Rattle.unread.proofs.Told.{told, reset-told, disconnect-told, ReadTold, blind, read, status-read}
+use Rattle.unread.proofs.Unread.{int-pending, raised-from-quiet, raised-sets-int, raised-anew}
+use Rattle.unread.proofs.Because.{Found, quiet, reading-out, resetting, because-found, raised-because}
 
--- what the happenings h of one call say of the states before and after it
-data Follows (s t : State) : List Happening → Type 0 where
-  still : t .status .code ≡ s .status .code → interrupted t ≡ interrupted s → Follows s t []
-  reset : t .status .code ≡ 0x00 → interrupted t ≡ true → Follows s t (H.resets ∷ [])
-  raise : interrupted s ≡ false → interrupted t ≡ true → Follows s t (H.raises (t .status .code) ∷ [])
-  told-code : t .status .code ≡ s .status .code → interrupted t ≡ false → Follows s t (H.reads (s .status .code) ∷ [])
+-- what the happenings of one call say of the code and of what is pending, before it and after it
+data Leads : ℕ → Pending → ℕ → Pending → List Happening → Type 0 where
+  still : {k : ℕ} {q p : Pending} → owedBy p ≡ owedBy q → Leads k q k p []
+  reset : {k : ℕ} {q : Pending} → Leads k q 0x00 Interrupt (H.resets ∷ [])
+  raise : {k j : ℕ} {q : Pending} → owedBy q ≡ nothing → Leads k q j Interrupt (H.raises j ∷ [])
+  raise-owed : {k j : ℕ} → Leads k (Ending j) j Interrupt (H.raises j ∷ [])
+  tell : {k : ℕ} {q p : Pending} → isComing q ≡ false → owedBy p ≡ nothing → Leads k q k p (H.reads k ∷ [])
+  begin : {k j : ℕ} {q : Pending} → owedBy q ≡ nothing → Leads k q k (Ending j) (H.begins j ∷ [])
+  disconnect : {k j : ℕ} → Leads k (Ending j) k Nothing (H.disconnects ∷ [])
 
--- a call that is no Reset, raises nothing and does not read 17h leaves the code and INT
-untouched : {c : Call} {s : State} {z : Standing} → Tells c s z → isReset c s ≡ false → readsAt 0x17 c s ≡ false
-    → (interrupted s ≡ false → isInterrupt (z .pending) ≡ true → ⊥)
-    → (z .code ≡ s .status .code) × (isInterrupt (z .pending) ≡ interrupted s)
-untouched (silent a) r d n = (refl, refl)
-untouched (moves x) r d n = (refl, refl)
-untouched (selects e q m) r d n = (refl, refl)
-untouched (settles {q = q} i p x) r d n = (refl, plain-int q p ∙ sym i)
-untouched (begins u h x) r d n = (refl, rw u)
-untouched (raises i h x) r d n = absurd (n i refl)
-untouched (reads e a) r d n = clash e d
-untouched (resets e x) r d n = clash e r
+-- a code is raised: nothing is owed, or that code is to come
+raise-leads : {c : Call} {s : State} {j k : ℕ} → Found c s j → isReset c s ≡ false → (q : Pending) → s .status .pending ≡ q
+    → isInterrupt q ≡ false → Leads k q j Interrupt (H.raises j ∷ [])
+raise-leads h r Nothing e i = raise refl
+raise-leads h r Interrupt e i = clash refl i
+raise-leads (quiet p) r (Ending k) e i = clash (ap isEnding e) (ap isEnding p)
+raise-leads {j = j} (reading-out h) r (Ending k) e i = rw (same (sym e ∙ h .ending)) raise-owed
+  where
+    same : Ending k ≡ Ending j → k ≡ j
+    same e = cc
+raise-leads (resetting f) r (Ending k) e i = clash f r
+raise-leads h r ReadOut e i = raise refl
 
-read-follows : {s : State} {o : Outcome} → ReadTold s o → Follows s (o .state) (H.readBy (o .answer))
-read-follows (blind a k q) = rw a (still k (ap isInterrupt q))
-read-follows {s} (read a k q) = rw a (told-code k (ap isInterrupt q ∙ cleared-int (s .status .pending)))
+disconnect-leads : {k : ℕ} (q : Pending) → isComing q ≡ true → Leads k q k Nothing (H.disconnects ∷ [])
+disconnect-leads Nothing e = clash e refl
+disconnect-leads Interrupt e = clash e refl
+disconnect-leads (Ending j) e = disconnect
+disconnect-leads ReadOut e = clash e refl
 
-follows : (c : Call) (s : State) → Follows s (step c s .state) (noted c s (step c s))
+coming-quiet : (q : Pending) → isComing q ≡ true → isInterrupt q ≡ false
+coming-quiet Nothing e = refl
+coming-quiet Interrupt e = clash e refl
+coming-quiet (Ending j) e = refl
+coming-quiet ReadOut e = refl
+
+-- 17h is read with no ending under way
+read-owes : (q : Pending) → isEnding q ≡ false → (isComing q ≡ false) × (owedBy (withoutInterrupt q) ≡ nothing)
+read-owes Nothing e = (refl, refl)
+read-owes Interrupt e = (refl, refl)
+read-owes (Ending k) e = clash refl e
+read-owes ReadOut e = clash refl e
+
+read-leads : {s : State} {o : Outcome} → ReadTold s o
+    → Leads (s .status .code) (s .status .pending) (o .state .status .code) (o .state .status .pending) (readBy (o .answer))
+unfolding busy
+read-leads (blind a k q) = rw (a, k, q) (still refl)
+read-leads {s} (read b a k q) =
+    let e = read-owes (s .status .pending) (either-rest (isRunning (s .transfer .running)) _ b) in rw (a, k, q) (tell (e .0) (e .1))
+
+same-begun : (q : Pending) → begunBy q q ≡ []
+unfolding pick
+same-begun Nothing = refl
+same-begun Interrupt = refl
+same-begun (Ending k) = refl
+same-begun ReadOut = refl
+
+owes-nothing : (q : Pending) → isInterrupt q ≡ false → isComing q ≡ false → owedBy q ≡ nothing
+owes-nothing Nothing i e = refl
+owes-nothing Interrupt i e = clash refl i
+owes-nothing (Ending k) i e = clash refl e
+owes-nothing ReadOut i e = refl
+
+-- a call that is no Reset, raises nothing, drops nothing and does not read 17h
+calm-leads : {c : Call} {s : State} {z : Standing} → Tells c s z → isReset c s ≡ false
+    → (interrupted s ≡ false → isInterrupt (z .pending) ≡ true → ⊥) → both (isDisconnect c s) (isComing (s .status .pending)) ≡ false
+    → readsAt 0x17 c s ≡ false
+    → Leads (s .status .code) (s .status .pending) (z .code) (z .pending) (begunBy (s .status .pending) (z .pending))
+unfolding both pick
+calm-leads {s = s} (silent a) r n d e = rw (same-begun (s .status .pending)) (still refl)
+calm-leads {s = s} (moves x) r n d e = rw (same-begun (s .status .pending)) (still refl)
+calm-leads {s = s} (selects f q m) r n d e = rw (same-begun (s .status .pending)) (still refl)
+calm-leads {s = s} (settles (disconnects f i)) r n d e = still (sym (owes-nothing (s .status .pending) i (rw f at d)))
+calm-leads (settles (reads-out q)) r n d e = still (ap owedBy (sym q))
+calm-leads (settles (has-read q l)) r n d e = still (ap owedBy (sym q))
+calm-leads (begins q h x) r n d e = rw q (begin refl)
+calm-leads (raises i h x) r n d e = absurd (n i refl)
+calm-leads (reads f a) r n d e = clash f e
+calm-leads (resets f x) r n d e = clash f r
+
+leads : (c : Call) (s : State)
+    → Leads (s .status .code) (s .status .pending) (step c s .state .status .code) (step c s .state .status .pending) (noted c s (step c s))
 unfolding noted
-follows c s =
-    by-case (Follows s (step c s .state)) _ (λ r. reset (reset-told c s r .0) (rw (reset-told c s r .1)))
-    (λ r. by-case (Follows s (step c s .state)) _
-    (λ e. raise (raised-from-quiet c s r e) (raised-sets-int c s _ e))
-    (λ n. by-case (Follows s (step c s .state)) _ (λ d. read-follows (status-read c s d))
-    (λ d. let u = untouched (told c s .tells) r d (λ j i. clash (raised-anew c s _ i j) n) in still (u .0) (u .1))))
+leads c s =
+    by-case So _ (λ r. rw (reset-told c s r .0, reset-told c s r .1) reset)
+    (λ r. by-case So _
+    (λ e. rw (int-pending (step c s .state) .0 (raised-sets-int c s _ e))
+    (raise-leads (because-found (raised-because .sound c s e)) r (s .status .pending) refl (raised-from-quiet c s r e)))
+    (λ n. by-case So _
+    (λ d. let k = both-second (isDisconnect c s) _ d in
+    let t = disconnect-told c s (both-first _ _ d) (coming-quiet (s .status .pending) k) in
+    rw (t .0, t .1) (disconnect-leads (s .status .pending) k))
+    (λ d. by-case So _ (λ e. read-leads (status-read c s e))
+    (λ e. calm-leads (told c s .tells) r (λ j i. clash (raised-anew c s _ i j) n) d e))))
+  where
+    So : List Happening → Type 0
+    So h = Leads (s .status .code) (s .status .pending) (step c s .state .status .code) (step c s .state .status .pending) h
 
 -- an orderly history, with what one call did before it
-preceded : {s t : State} {h l : List Happening} → Follows s t h → Orderly (t .status .code) (interrupted t) l
-    → Orderly (s .status .code) (interrupted s) (h ++ l)
-preceded (still k i) o = rw (k, i) at o
-preceded (reset k i) o = H.resetting (rw (k, i) at o)
-preceded (raise j i) o = rw j (H.raising (rw i at o))
-preceded (told-code k i) o = H.reading (rw (k, i) at o)
+preceded : {k j : ℕ} {q p : Pending} {h l : List Happening} → Leads k q j p h → Orderly j (owedBy p) l → Orderly k (owedBy q) (h ++ l)
+preceded (still e) o = rw e at o
+preceded reset o = H.resetting o
+preceded (raise e) o = rw e (H.raising o)
+preceded raise-owed o = H.coming-up o
+preceded {q = Nothing} (tell n e) o = H.again (rw e at o)
+preceded {q = Interrupt} (tell n e) o = H.reading (rw e at o)
+preceded {q = Ending k} (tell n e) o = clash refl n
+preceded {q = ReadOut} (tell n e) o = H.again (rw e at o)
+preceded (begin e) o = rw e (H.beginning o)
+preceded disconnect o = H.disconnecting o
 
-last-with : {s t : State} {h : List Happening} (l : List Happening) → Follows s t h
-    → lastCode (t .status .code) l ≡ lastCode (s .status .code) (h ++ l)
-last-with l (still k i) = rw k
-last-with l (reset k i) = rw k
-last-with l (raise j i) = refl
-last-with l (told-code k i) = rw k
+last-with : {k j : ℕ} {q p : Pending} {h : List Happening} (l : List Happening) → Leads k q j p h → lastCode j l ≡ lastCode k (h ++ l)
+last-with l (still e) = refl
+last-with l reset = refl
+last-with l (raise e) = refl
+last-with l raise-owed = refl
+last-with l (tell n e) = refl
+last-with l (begin e) = refl
+last-with l disconnect = refl
 
-unread-with : {s t : State} {h : List Happening} (l : List Happening) → Follows s t h
-    → isUnread (interrupted t) l ≡ isUnread (interrupted s) (h ++ l)
-unread-with l (still k i) = rw i
-unread-with l (reset k i) = rw i
-unread-with l (raise j i) = rw i
-unread-with l (told-code k i) = rw i
+owed-with : {k j : ℕ} {q p : Pending} {h : List Happening} (l : List Happening) → Leads k q j p h
+    → owedAfter (owedBy p) l ≡ owedAfter (owedBy q) (h ++ l)
+owed-with l (still e) = rw e
+owed-with l reset = refl
+owed-with l (raise e) = refl
+owed-with l raise-owed = refl
+owed-with l (tell n e) = rw e
+owed-with l (begin e) = refl
+owed-with l disconnect = refl
 
 code-last : (l : List Call) (s : State) → run step l s .status .code ≡ lastCode (s .status .code) (history step l s)
 unfolding run history
 code-last [] s = refl
-code-last (c ∷ l) s = code-last l (step c s .state) ∙ last-with (history step l (step c s .state)) (follows c s)
+code-last (c ∷ l) s = code-last l (step c s .state) ∙ last-with (history step l (step c s .state)) (leads c s)
 
-int-unread : (l : List Call) (s : State) → interrupted (run step l s) ≡ isUnread (interrupted s) (history step l s)
+owed-last : (l : List Call) (s : State)
+    → owedBy (run step l s .status .pending) ≡ owedAfter (owedBy (s .status .pending)) (history step l s)
 unfolding run history
-int-unread [] s = refl
-int-unread (c ∷ l) s = int-unread l (step c s .state) ∙ unread-with (history step l (step c s .state)) (follows c s)
+owed-last [] s = refl
+owed-last (c ∷ l) s = owed-last l (step c s .state) ∙ owed-with (history step l (step c s .state)) (leads c s)
 
-in-order : (l : List Call) (s : State) → Orderly (s .status .code) (interrupted s) (history step l s)
+in-order : (l : List Call) (s : State) → Orderly (s .status .code) (owedBy (s .status .pending)) (history step l s)
 unfolding history
 in-order [] s = H.over
-in-order (c ∷ l) s = preceded (follows c s) (in-order l (step c s .state))
+in-order (c ∷ l) s = preceded (leads c s) (in-order l (step c s .state))
 
 -- from an unread code on, the next code that is no Reset's comes after a read
-read-before : {w : ℕ} (k : ℕ) (j h : List Happening) → Orderly w true (h ++ (H.raises k ∷ j)) → hasRead h ≡ true
+read-before : {w : ℕ} (k : ℕ) (j h : List Happening) → Orderly w unread (h ++ (H.raises k ∷ j)) → hasRead h ≡ true
 unfolding hasRead either
 read-before k j (H.resets ∷ h) (H.resetting o) = read-before k j h o
 read-before k j (H.reads v ∷ h) (H.reading o) = refl
 
 -- what is left of an orderly history is orderly, from some code on
-later : {k : ℕ} {w : Bool} (g h : List Happening) → Orderly k w (g ++ h) → (j : ℕ) × (v : Bool) × Orderly j v h
+later : {k : ℕ} {w : Owed} (g h : List Happening) → Orderly k w (g ++ h) → (j : ℕ) × (v : Owed) × Orderly j v h
 later [] h o = (_, _, o)
 later (H.raises j ∷ g) h (H.raising o) = later g h o
+later (H.raises j ∷ g) h (H.coming-up o) = later g h o
 later (H.resets ∷ g) h (H.resetting o) = later g h o
 later (H.reads v ∷ g) h (H.reading o) = later g h o
+later (H.reads v ∷ g) h (H.again o) = later g h o
+later (H.begins j ∷ g) h (H.beginning o) = later g h o
+later (H.disconnects ∷ g) h (H.disconnecting o) = later g h o
 
-after-raising : {k : ℕ} {w : Bool} {h : List Happening} (x : Happening) → isRaising x ≡ true → Orderly k w (x ∷ h)
-    → (j : ℕ) × Orderly j true h
+after-raising : {k : ℕ} {w : Owed} {h : List Happening} (x : Happening) → isRaising x ≡ true → Orderly k w (x ∷ h)
+    → (j : ℕ) × Orderly j unread h
 after-raising (H.raises j) e (H.raising o) = (j, o)
+after-raising (H.raises j) e (H.coming-up o) = (j, o)
 after-raising H.resets e (H.resetting o) = (0x00, o)
 after-raising (H.reads v) e o = clash e refl
+after-raising (H.begins j) e o = clash e refl
+after-raising H.disconnects e o = clash e refl
+
+-- from a code to come on
+in-turn : {k j : ℕ} {h : List Happening} → Orderly k (coming j) h → Follows j h
+in-turn H.over = H.not-yet
+in-turn (H.coming-up o) = H.raised-next
+in-turn (H.resetting o) = H.reset-next
+in-turn (H.disconnecting o) = H.disconnected-next
+
+after-beginning : {k j : ℕ} {w : Owed} {h : List Happening} → Orderly k w (H.begins j ∷ h) → Follows j h
+after-beginning (H.beginning o) = in-turn o
 
 pub no-status-lost : NoStatusLost step
 no-status-lost =
     record {
       code-is-last = code-last;
-      int-is-unread = int-unread;
+      pending-is-owed = owed-last;
       orderly = in-order;
       read-between = λ l s g h j x k e r.
-          let o : Orderly (s .status .code) (interrupted s) (g ++ (x ∷ (h ++ (H.raises k ∷ j)))) = rw e at (in-order l s) in
+          let o : Orderly (s .status .code) (owedBy (s .status .pending)) (g ++ (x ∷ (h ++ (H.raises k ∷ j)))) = rw e at (in-order l s) in
           read-before k j h (after-raising x r (later g _ o .2) .1);
+      raised-in-turn = λ l s g h k e.
+          let o : Orderly (s .status .code) (owedBy (s .status .pending)) (g ++ (H.begins k ∷ h)) = rw e at (in-order l s) in
+          after-beginning (later g _ o .2);
     }
 
 -- from a fresh state, in the words of the chip's `after`
@@ -131,5 +229,5 @@ ran (c ∷ l) s = ran l (step c s .state)
 pub code-after : (l : List Call) → after l fresh .status .code ≡ lastCode 0x00 (history step l fresh)
 code-after l = rw (← (ran l fresh)) (code-last l fresh)
 
-pub int-after : (l : List Call) → interrupted (after l fresh) ≡ isUnread false (history step l fresh)
-int-after l = rw (← (ran l fresh)) (int-unread l fresh)
+pub owed-after : (l : List Call) → owedBy (after l fresh .status .pending) ≡ owedAfter nothing (history step l fresh)
+owed-after l = rw (← (ran l fresh)) (owed-last l fresh)

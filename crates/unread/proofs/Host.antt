@@ -16,7 +16,7 @@ use Rattle.chip.specs.Lines.{codeOf}
 use Rattle.chip.specs.Interrupts.{interrupted, ends, isEnding, busy, isRunning, raise, outgoingDropped, settled, settledBy, unread, isIncoming}
 use Rattle.chip.specs.Count.{loaded, loadedInfo}
 use Rattle.chip.specs.SelectAndTransfer.{resumed, fromDisconnected}
-use Rattle.chip.specs.Commands.{isValid, isReady, isPlace, isTwo, isRefusedBusy, leftOut, entryOf, table, reset, aborted, disconnected, selecting, transferring, informing, carriedOut, accepted, commanded}
+use Rattle.chip.specs.Commands.{isConnected, isValid, isReady, isPlace, isTwo, isRefusedBusy, leftOut, entryOf, table, reset, aborted, disconnected, selecting, transferring, informing, carriedOut, accepted, commanded}
 use Rattle.chip.specs.Calls.{Call, register, block, isGood, isSet}
 use Rattle.chip.specs.State.{setFifo, setPending, setConnection}
 use Rattle.chip.specs.Fifo.{isEmpty, pop, waits}
@@ -36,12 +36,12 @@ use Rattle.chip.specs.declared.Direction.the-variants.{Unfixed, In, Out}
 use Rattle.chip.specs.declared.Reply.{Reply}
 use Rattle.chip.specs.declared.Running.{Running}
 use Rattle.chip.specs.declared.Running.the-variants.{Idle}
-use Rattle.unread.specs.Status.{isCommand, isReset, isSelection, isAnswer, readsAt}
+use Rattle.unread.specs.Status.{isCommand, isReset, isSelection, isDisconnect, isAnswer, readsAt}
 use Rattle.unread.specs.Because as B
-use Rattle.unread.specs.Because.{Quiet, Because}
+use Rattle.unread.specs.Because.{Quiet, ReadsLast}
 use Rattle.chip.proofs.Cases.{by-pick, by-case, by-test, both-first, both-second, either-first, either-rest}
 use Rattle.unread.proofs.Choosing.{clash, not-first, only-first, one-or, one-of}
-use Rattle.unread.proofs.Telling.{connected-apart, Standing, standing, isSelecting, Tells, ToldState, so, ToldReply, silent, moves, selects, settles, raises, reads, resets, gone, there, ended, brought, quiet-of, is-connected}
+use Rattle.unread.proofs.Telling.{connected-apart, Standing, standing, isSelecting, Tells, ToldState, so, ToldReply, disconnects, has-read, silent, moves, selects, settles, raises, reads, resets, gone, there, ended, brought, quiet-of, is-connected}
 
 -- commands
 
@@ -134,6 +134,13 @@ module _
   still : Tells (register m b) s (standing s)
   still = silent (λ q. refl)
 
+  -- a valid Disconnect finds the controller connected
+  is-disconnect : eqb (codeOf b) 0x04 ≡ true → isValid (codeOf b) s ≡ true → isDisconnect (register m b) s ≡ true
+  unfolding isDisconnect isValid entryOf table both
+  is-disconnect e v =
+      let k : codeOf b ≡ 0x04 = eqb-true _ _ e in
+      rw (is-command 0x04 e) (both-first (isConnected (s .wire .connection)) _ (rw k at v))
+
   is-selection : isSelect (codeOf b) ≡ true → isSelection (register m b) s ≡ true
   unfolding isSelection isCommand isSelect both
   is-selection e = rw (good, set, at, e)
@@ -172,8 +179,8 @@ module _
         (λ n1. let z : isSelecting (s .wire .connection) ≡ false = valid-apart (codeOf b) s n0 n1 v in
         by-pick Told _ (so (moves z))
         (by-pick Told _ (so (moves z))
-        (by-pick Told _ (so (settles i refl refl))
-        (by-case Told _ (λ e. let w : isSelect (codeOf b) ≡ true = rw e in so (selects (is-selection w) (select-quiet w r) refl))
+        (by-case Told _ (λ e. so (settles (disconnects (is-disconnect e v) i)))
+        (λ n4. by-case Told _ (λ e. let w : isSelect (codeOf b) ≡ true = rw e in so (selects (is-selection w) (select-quiet w r) refl))
         (λ n6. by-case Told _ (λ e. let w : isSelect (codeOf b) ≡ true = rw (n6, e) in so (selects (is-selection w) (select-quiet w r) refl))
         (λ n7. by-case Told _ (λ e. transferring-tells _ refl (rw e) r)
         (λ n8. by-case Told _ (λ e. transferring-tells _ refl (rw (n8, e)) r)
@@ -202,12 +209,13 @@ data Pops (s : State) : State → Type 0 where
   one-read : isIncoming (s .transfer .direction) ≡ true → isEmpty (s .fifo) ≡ false → Pops s (setFifo (pop (s .fifo)) s)
   ending-read : {k : ℕ} → isIncoming (s .transfer .direction) ≡ true → waits (s .fifo) ≡ 1 → s .status .pending ≡ Ending k
       → Pops s (raise k (setFifo (pop (s .fifo)) s))
-  wait-read : s .status .pending ≡ ReadOut → Pops s (setConnection Waiting (setPending Nothing (setFifo (pop (s .fifo)) s)))
+  wait-read : isIncoming (s .transfer .direction) ≡ true → waits (s .fifo) ≡ 1 → s .status .pending ≡ ReadOut
+      → Pops s (setConnection Waiting (setPending Nothing (setFifo (pop (s .fifo)) s)))
 
 -- at most n reads of the Data register, made in s, leave z
 data Drains (n : ℕ) (s : State) : Standing → Type 0 where
   drains-nothing : Drains n s (standing s)
-  drains-wait : s .status .pending ≡ ReadOut
+  drains-wait : isIncoming (s .transfer .direction) ≡ true → 0 < waits (s .fifo) → waits (s .fifo) ≤ n → s .status .pending ≡ ReadOut
       → Drains n s (record { code = s .status .code; pending = Nothing; connection = Waiting; running = s .transfer .running })
   drains-ending : {k : ℕ} → isIncoming (s .transfer .direction) ≡ true → 0 < waits (s .fifo) → waits (s .fifo) ≤ n
       → s .status .pending ≡ Ending k
@@ -235,7 +243,7 @@ unfolding settledBy
 pops-settled s Nothing e d w = one-read d (holds-some (s .fifo) (omega arith))
 pops-settled s Interrupt e d w = one-read d (holds-some (s .fifo) (omega arith))
 pops-settled s (Ending k) e d w = ending-read d w e
-pops-settled s ReadOut e d w = wait-read e
+pops-settled s ReadOut e d w = wait-read d w e
 
 pops-in : (s : State) → s .transfer .direction ≡ In → Pops s (dataReadBy In s .state)
 unfolding settled
@@ -263,17 +271,17 @@ pops s = by-way _ refl
 then : {n : ℕ} {s t : State} {z : Standing} → Pops s t → Drains n t z → Drains (suc n) s z
 unfolding raise outgoingDropped
 then nothing-read drains-nothing = drains-nothing
-then nothing-read (drains-wait e) = drains-wait e
+then nothing-read (drains-wait d w v e) = drains-wait d w (omega arith) e
 then nothing-read (drains-ending d w v e) = drains-ending d w (omega arith) e
 then (one-read d w) drains-nothing = drains-nothing
-then (one-read d w) (drains-wait e) = drains-wait e
+then {s = s} (one-read d w) (drains-wait d' w' v e) = drains-wait d (some-wait (s .fifo) w) (omega (arith, one-less (s .fifo) w)) e
 then {s = s} (one-read d w) (drains-ending d' w' v e) = drains-ending d (some-wait (s .fifo) w) (omega (arith, one-less (s .fifo) w)) e
 then (ending-read d w e) drains-nothing = drains-ending d (omega arith) (omega arith) e
-then (ending-read d w e) (drains-wait f) = clash (ap isEnding f) refl
+then (ending-read d w e) (drains-wait d' w' v f) = clash (ap isEnding f) refl
 then (ending-read d w e) (drains-ending d' w' v f) = clash (ap isEnding f) refl
-then (wait-read e) drains-nothing = drains-wait e
-then (wait-read e) (drains-wait f) = clash (ap isEnding f) refl
-then (wait-read e) (drains-ending d' w' v f) = clash (ap isEnding f) refl
+then (wait-read d w e) drains-nothing = drains-wait d (omega arith) (omega arith) e
+then (wait-read d w e) (drains-wait d' w' v f) = clash (ap isEnding f) refl
+then (wait-read d w e) (drains-ending d' w' v f) = clash (ap isEnding f) refl
 
 -- what holds where a block goes on and where it stops holds
 going : (P : Moved → Type 0) (a : Answer) (on : ℕ → Moved) (stop : Moved) → ((v : ℕ) → P (on v)) → P stop → P (goOn a on stop)
@@ -313,12 +321,12 @@ block-stands (x ∷ l) s =
     refl
 
 drained : {c : Call} {n : ℕ} {s : State} {z : Standing} → isAnswer c ≡ false
-    → ((j : ℕ) → isIncoming (s .transfer .direction) ≡ true → 0 < waits (s .fifo) → waits (s .fifo) ≤ n → s .status .pending ≡ Ending j
-    → Because c s j)
+    → (isIncoming (s .transfer .direction) ≡ true → 0 < waits (s .fifo) → waits (s .fifo) ≤ n → ReadsLast c s)
     → Drains n s z → Tells c s z
 drained a h drains-nothing = silent (λ q. a)
-drained a h (drains-wait e) = settles (rw e) refl refl
-drained a h (drains-ending d w v e) = raises (rw e) (h _ d w v e) (there (λ q. clash refl (ap isEnding (sym e ∙ q))))
+drained a h (drains-wait d w v e) = settles (has-read e (h d w v))
+drained a h (drains-ending d w v e) =
+    raises (rw e) (B.reads (record { last = h d w v; ending = e })) (there (λ q. clash refl (ap isEnding (sym e ∙ q))))
 
 -- the registers
 
@@ -339,7 +347,7 @@ module _ (m b : ℕ) (s : State) (good : isGood (register m b) ≡ true) where
       by-case Says _ (λ e. so (reads (is-read 0x17 w e) refl))
       (λ n. by-pick Says _ (so unmoved)
       (by-case Says _
-      (λ e. so (drained {n = 1} refl (λ j d v u f. B.reads (B.byte (is-read 0x19 w e) d (omega arith) f)) (then (pops s) drains-nothing)))
+      (λ e. so (drained {n = 1} refl (λ d v u. B.byte (is-read 0x19 w e) d (omega arith)) (then (pops s) drains-nothing)))
       (λ o. so unmoved)))
 
   stored-tells : (a : ℕ) → ToldState (register m b) s (stored a b s)
@@ -373,7 +381,7 @@ module _ (m b : ℕ) (s : State) (good : isGood (register m b) ≡ true) where
 
 pub block-tells : (m : ℕ) (l : List ℕ) (s : State) → isGood (block m l) ≡ true → isSet m ≡ false
     → ToldState (block m l) s (blockRead l s .state)
-block-tells m l s good w = so (drained refl (λ j d v u f. B.reads (B.slice good w d v u f)) (block-drains l s))
+block-tells m l s good w = so (drained refl (λ d v u. B.slice good w d v u) (block-drains l s))
 
 pub block-written-tells : (m : ℕ) (l : List ℕ) (s : State) → ToldState (block m l) s (blockWritten l s .state)
 block-written-tells m l s = so (rw (block-stands l s) (silent (λ q. refl)))

@@ -23,7 +23,7 @@ use Rattle.chip.specs.declared.Connection.the-variants.{Selecting, Connected}
 use Rattle.chip.specs.declared.Running.the-variants.{SelectWithoutAtn, TransferInfo}
 use Rattle.chip.specs.declared.Direction.the-variants.{In}
 use Rattle.chip.proofs.Computing.{everything}
-use Rattle.unread.specs.Status.{isCommand, isReset, isSelection, readsAt, raised}
+use Rattle.unread.specs.Status.{isCommand, isReset, isSelection, isDisconnect, readsAt, raised}
 use Rattle.unread.specs.Unread.{UnreadStatusKept, CodeMovesOnlyByRaising}
 use Rattle.unread.specs.History as H
 use Rattle.unread.specs.History.{NoStatusLost, Orderly}
@@ -60,25 +60,28 @@ mumbling-refused h = clash (h .int-with-code free fresh other-code) refl
     other-code z = omega arith
 
 pub hasty-loses : NoStatusLost hasty → ⊥
-unfolding everything hasty W.changed isReset isCommand readsAt raised H.history H.noted H.run
+unfolding everything hasty W.changed isReset isCommand isDisconnect readsAt raised H.history H.noted H.run
 hasty-loses h = lost (h .orderly (time 0 ∷ []) (unreadAt 0))
   where
-    lost : Orderly 0x16 true (H.raises 0x42 ∷ []) → ⊥
+    lost : Orderly 0x16 H.unread (H.raises 0x42 ∷ []) → ⊥
     lost o = elim o [ ]
 
 pub peeking-hides : NoStatusLost peeking → ⊥
-unfolding everything peeking W.changed isReset isCommand readsAt raised H.history H.noted H.run
-peeking-hides h = clash (h .int-is-unread (auxiliary ∷ []) (unreadAt 0)) refl
+unfolding everything peeking W.changed isReset isCommand isDisconnect readsAt raised H.history H.noted H.run
+peeking-hides h = let e : H.nothing ≡ H.unread = h .pending-is-owed (auxiliary ∷ []) (unreadAt 0) in absurd-owed e
+  where
+    absurd-owed : H.nothing ≡ H.unread → ⊥
+    absurd-owed e = let z : _≡_ {A = ℕ} 0 1 = cc in omega arith
 
 pub mumbling-lies : NoStatusLost mumbling → ⊥
-unfolding everything mumbling W.changed isReset isCommand readsAt raised H.history H.noted H.run
+unfolding everything mumbling W.changed isReset isCommand isDisconnect readsAt raised H.history H.noted H.run
 mumbling-lies h = let z : _≡_ {A = ℕ} 0x85 0x00 = h .code-is-last (free ∷ []) fresh in omega arith
 
 pub forgetful-stale : NoStatusLost forgetful → ⊥
-unfolding everything forgetful isReset isCommand readsAt raised H.history H.noted H.run
+unfolding everything forgetful isReset isCommand isDisconnect readsAt raised H.history H.noted H.run
 forgetful-stale h = stale (h .orderly (register 0 0 ∷ []) (unreadAt 0x17))
   where
-    stale : Orderly 0x16 true (H.reads 0x00 ∷ []) → ⊥
+    stale : Orderly 0x16 H.unread (H.reads 0x00 ∷ []) → ⊥
     stale o = elim o [ ]
 
 -- selecting, with a timeout of 1

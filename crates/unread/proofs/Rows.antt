@@ -2,6 +2,7 @@
 --   aborts-connected-row aborts-row refuses-row resumes-row   commands
 --   times-out-row answers-row reselects-row                   events
 --   byte-row slice-row                                        reads
+--   Emptied block-empties   what a read of all incoming bytes leads to
 use mathlib.Core.Path.{_≡_, refl, sym, ap, _∙_}
 use mathlib.Core.Bool.{Bool, true, false}
 use mathlib.Core.List.{List, [], _∷_}
@@ -26,6 +27,7 @@ use Rattle.chip.specs.Events as E
 use Rattle.chip.specs.Events.{isTransfer}
 use Rattle.chip.specs.Calls.{Call, Outcome, block, time, answer, reselection, isGood, isSet, plain, step, carried}
 use Rattle.chip.specs.declared.State.{State}
+use Rattle.chip.specs.declared.Fifo.{Fifo}
 use Rattle.chip.specs.declared.Reply.{Reply}
 use Rattle.chip.specs.declared.Running.{Running}
 use Rattle.chip.specs.declared.Connection.{Connection}
@@ -33,7 +35,7 @@ use Rattle.chip.specs.declared.Connection.the-variants.{Disconnected, Selecting
 use Rattle.chip.specs.declared.Direction.{Direction}
 use Rattle.chip.specs.declared.Direction.the-variants.{Unfixed, In, Out}
 use Rattle.chip.specs.declared.Pending.{Pending}
-use Rattle.chip.specs.declared.Pending.the-variants.{Ending}
+use Rattle.chip.specs.declared.Pending.the-variants.{Nothing, Interrupt, Ending, ReadOut}
 use Rattle.unread.specs.Status.{isCommand, readsAt}
 use Rattle.unread.specs.Because.{Quiet}
 use Rattle.chip.proofs.Cases.{by-test}
@@ -217,52 +219,71 @@ unfolding R.blockRead
 no-block [] s e = refl
 no-block (x ∷ l) s e = rw (no-data s e)
 
-raise-empty : (k : ℕ) (s : State) → isEmpty (s .fifo) ≡ true → isEmpty (raise k s .fifo) ≡ true
-unfolding raise outgoingDropped isEmpty
-raise-empty k s e = by-way (s .transfer .direction)
+-- what an ending comes to keeps an empty FIFO empty
+settled-empty : (q : Pending) (s : State) → isEmpty (s .fifo) ≡ true → isEmpty (settledBy q s .fifo) ≡ true
+unfolding settledBy raise outgoingDropped isEmpty
+settled-empty Nothing s e = e
+settled-empty Interrupt s e = e
+settled-empty (Ending k) s e = by-way (s .transfer .direction)
   where
     by-way : (d : Direction) → isEmpty (withoutOutgoing d (s .fifo)) ≡ true
     by-way Unfixed = e
     by-way In = e
     by-way Out = refl
+settled-empty ReadOut s e = e
 
--- the read of the last byte of an ending, and of a byte before it
-last-settles : (k : ℕ) (s : State) → isEmpty (pop (s .fifo)) ≡ true → s .status .pending ≡ Ending k
-    → settled (setFifo (pop (s .fifo)) s) ≡ raise k (setFifo (pop (s .fifo)) s)
-unfolding settled settledBy
-last-settles k s z p = taken _ _ z ∙ ap (λ (q : Pending). settledBy q (setFifo (pop (s .fifo)) s)) p
+-- the incoming bytes are read to the last, which leads from s to t: what is pending settles
+pub data Emptied (s t : State) : Type 0 where
+  emptied : (q : Fifo) → isEmpty q ≡ true → t ≡ settledBy (s .status .pending) (setFifo q s) → Emptied s t
 
 more-settles : (s : State) → isEmpty (pop (s .fifo)) ≡ false → settled (setFifo (pop (s .fifo)) s) ≡ setFifo (pop (s .fifo)) s
 unfolding settled
 more-settles s z = passed-over _ _ z
 
-block-raises : (k : ℕ) (l : List ℕ) (s : State) → isIncoming (s .transfer .direction) ≡ true → 0 < waits (s .fifo)
-    → waits (s .fifo) ≤ length l → s .status .pending ≡ Ending k → Ended k false (R.blockRead l s .state)
-unfolding R.blockRead endingWith unread
-block-raises k [] s d v u p = absurd (omega arith)
-block-raises k (x ∷ l) s d v u p =
+-- the last byte is read, and a byte before it
+last-empties : (l : List ℕ) (s : State) → isEmpty (pop (s .fifo)) ≡ true
+    → Emptied s (R.blockRead l (settled (setFifo (pop (s .fifo)) s)) .state)
+unfolding settled
+last-empties l s z =
+    emptied (pop (s .fifo)) z
+    (ap (λ (r : State). R.blockRead l r .state) (taken _ _ z)
+    ∙ no-block l (settledBy (s .status .pending) (setFifo (pop (s .fifo)) s)) (settled-empty (s .status .pending) _ z))
+
+earlier-empties : {s t : State} {q : Fifo} → Emptied (setFifo q s) t → Emptied s t
+earlier-empties (emptied q e f) = emptied q e f
+
+pub block-empties : (l : List ℕ) (s : State) → isIncoming (s .transfer .direction) ≡ true → 0 < waits (s .fifo)
+    → waits (s .fifo) ≤ length l → Emptied s (R.blockRead l s .state)
+unfolding R.blockRead
+block-empties [] s d v u = absurd (omega arith)
+block-empties (x ∷ l) s d v u =
     rw (data-read s d (holds-some (s .fifo) v))
-    (by-test (isEmpty (pop (s .fifo)))
-    (λ z. let t : State = setFifo (pop (s .fifo)) s in
-    let f : unread t ≡ false = second-fails _ _ (rw z) in
-    rw (last-settles k s z p) (ended-by t (ap seen (no-block l (raise k t) (raise-empty k t z) ∙ sym (passed-over _ _ f))) f))
+    (by-test (isEmpty (pop (s .fifo))) (last-empties l s)
     (λ z. rw (more-settles s z)
-    (block-raises k l (setFifo (pop (s .fifo)) s) d (some-wait _ z) (omega (arith, one-less (s .fifo) (holds-some (s .fifo) v))) p)))
+    (earlier-empties
+    (block-empties l (setFifo (pop (s .fifo)) s) d (some-wait _ z) (omega (arith, one-less (s .fifo) (holds-some (s .fifo) v)))))))
+
+-- .. of an ending with k
+emptied-ends : {k : ℕ} {s t : State} → Emptied s t → s .status .pending ≡ Ending k → Ended k false t
+unfolding settledBy endingWith unread
+emptied-ends {k} {s} (emptied q e l) p =
+    let u : State = setFifo q s in
+    let f : unread u ≡ false = second-fails _ _ (rw e) in
+    ended-by u (ap seen (l ∙ ap (λ (x : Pending). settledBy x u) p ∙ sym (passed-over _ _ f))) f
 
 pub slice-row : (m : ℕ) (l : List ℕ) (s : State) (k : ℕ) → isGood (block m l) ≡ true → isSet m ≡ false
     → isIncoming (s .transfer .direction) ≡ true → 0 < waits (s .fifo) → waits (s .fifo) ≤ length l → s .status .pending ≡ Ending k
     → Ended k false (step (block m l) s .state)
 unfolding carried
 slice-row m l s k g f d v u p =
-    rw (good-step (block m l) s g, passed-over (R.blockWritten l s) (R.blockRead l s) f) (block-raises k l s d v u p)
+    rw (good-step (block m l) s g, passed-over (R.blockWritten l s) (R.blockRead l s) f) (emptied-ends (block-empties l s d v u) p)
 
 -- one read is a block of one
-data-raises : (k : ℕ) (s : State) → isIncoming (s .transfer .direction) ≡ true → waits (s .fifo) ≡ 1 → s .status .pending ≡ Ending k
-    → Ended k false (R.dataRead s .state)
+data-empties : (s : State) → isIncoming (s .transfer .direction) ≡ true → waits (s .fifo) ≡ 1 → Emptied s (R.dataRead s .state)
 unfolding R.blockRead
-data-raises k s d w p =
+data-empties s d w =
     let e = data-read s d (holds-some (s .fifo) (omega arith)) in
-    rw e (rw e at (block-raises k (0 ∷ []) s d (omega arith) (omega arith) p))
+    rw e (rw e at (block-empties (0 ∷ []) s d (omega arith) (omega arith)))
 
 data-reachable : (b : ℕ) (s : State) → R.accessedAt 0x19 false b s ≡ R.dataRead s
 unfolding R.accessedAt R.isBlind R.readAt both either pick
@@ -272,4 +293,4 @@ pub byte-row : (c : Call) (s : State) (k : ℕ) → readsAt 0x19 c s ≡ true �
     → waits (s .fifo) ≡ 1 → s .status .pending ≡ Ending k → Ended k false (step c s .state)
 byte-row c s k e d w p =
     let h : Reading 0x19 c s = reading 0x19 c s e in
-    stepped-ended c s 0x19 _ (h .gives) (rw (data-reachable (h .byte) s) (data-raises k s d w p))
+    stepped-ended c s 0x19 _ (h .gives) (rw (data-reachable (h .byte) s) (emptied-ends (data-empties s d w) p))

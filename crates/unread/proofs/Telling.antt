@@ -1,5 +1,7 @@
 -- What one call does to the code at 17h, to what is pending and to a selection, and the leaves of the walk that shows it of every call.
 --   Standing standing  of a state: the code, what is pending, the connection, the running command
+--   Settles c s q x    the call c, made in s, settles what was pending: q is pending then, with the connection x
+--   settles-quiet settles-apart settles-plain   .. there was no INT, no selection runs, and no code is to come
 --   Tells c s z        the call c, made in s, leaves z: the eight ways
 --   Leaves s x         a code raised in s leaves the connection x: a selection is over
 --   ToldState so ToldReply   .. said of the state, or of the reply, that the call leads to
@@ -23,8 +25,8 @@ use Rattle.chip.specs.declared.Pending.the-variants.{Nothing, Interrupt, Ending
 use Rattle.chip.specs.declared.Running.{Running}
 use Rattle.chip.specs.declared.Connection.{Connection}
 use Rattle.chip.specs.declared.Connection.the-variants.{Disconnected, Selecting, Waiting, Connected}
-use Rattle.unread.specs.Status.{isReset, isSelection, isAnswer, readsAt}
-use Rattle.unread.specs.Because.{Quiet, Brings, Begins, Because, brings-unread, brings}
+use Rattle.unread.specs.Status.{isReset, isSelection, isDisconnect, isAnswer, readsAt}
+use Rattle.unread.specs.Because.{Quiet, Brings, Begins, ReadsLast, Because, brings-unread, brings}
 use Rattle.chip.proofs.Cases.{by-case}
 use Rattle.unread.proofs.Choosing.{clash}
 
@@ -56,6 +58,12 @@ pub data Leaves (s : State) : Connection → Type 0 where
   gone : {x : Connection} → isSelecting x ≡ false → Leaves s x
   there : (Quiet s → isRunning (s .transfer .running) ≡ false) → Leaves s (s .wire .connection)
 
+-- why nothing is pending, or a read-out with no code, where something else was: a Disconnect, a Free at 42h, the last byte after one
+pub data Settles (c : Call) (s : State) : Pending → Connection → Type 0 where
+  disconnects : isDisconnect c s ≡ true → interrupted s ≡ false → Settles c s Nothing Disconnected
+  reads-out : Quiet s → Settles c s ReadOut Disconnected
+  has-read : s .status .pending ≡ ReadOut → ReadsLast c s → Settles c s Nothing Waiting
+
 pub data Tells (c : Call) (s : State) : Standing → Type 0 where
   -- all four as they were; no Answer that a sound selection would have taken
   silent : (Quiet s → isAnswer c ≡ false) → Tells c s (standing s)
@@ -65,8 +73,8 @@ pub data Tells (c : Call) (s : State) : Standing → Type 0 where
   -- a selection begins
   selects : {r : Running} → isSelection c s ≡ true → Quiet s → isRunning r ≡ true
       → Tells c s (record { code = s .status .code; pending = s .status .pending; connection = Selecting; running = r })
-  -- what was pending goes, or bytes are read out with no code to come
-  settles : {q : Pending} {x : Connection} {r : Running} → interrupted s ≡ false → isPlain q ≡ true → isSelecting x ≡ false
+  -- what was pending goes, or bytes are to be read out with no code to come
+  settles : {q : Pending} {x : Connection} {r : Running} → Settles c s q x
       → Tells c s (record { code = s .status .code; pending = q; connection = x; running = r })
   -- an ending begins
   begins : {k : ℕ} {x : Connection} {r : Running} → Quiet s → Begins c s k → isSelecting x ≡ false
@@ -95,6 +103,21 @@ so h = record { tells = h }
 
 abbrev pub ToldReply : Call → State → Reply → Type 0
 ToldReply c s r = ToldState c s (r .state)
+
+pub settles-quiet : {c : Call} {s : State} {q : Pending} {x : Connection} → Settles c s q x → interrupted s ≡ false
+settles-quiet (disconnects d i) = i
+settles-quiet (reads-out q) = ap isInterrupt q
+settles-quiet (has-read e l) = ap isInterrupt e
+
+pub settles-apart : {c : Call} {s : State} {q : Pending} {x : Connection} → Settles c s q x → isSelecting x ≡ false
+settles-apart (disconnects d i) = refl
+settles-apart (reads-out q) = refl
+settles-apart (has-read e l) = refl
+
+pub settles-plain : {c : Call} {s : State} {q : Pending} {x : Connection} → Settles c s q x → isPlain q ≡ true
+settles-plain (disconnects d i) = refl
+settles-plain (reads-out q) = refl
+settles-plain (has-read e l) = refl
 
 pub plain-int : (q : Pending) → isPlain q ≡ true → isInterrupt q ≡ false
 plain-int Nothing e = refl

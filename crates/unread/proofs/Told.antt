@@ -5,6 +5,7 @@
 --   issued         .. of a call that writes a command
 --   reset-told     Reset raises 00
 --   Reading reading   a register read, as the step takes it
+--   disconnect-told  Disconnect drops what is pending
 --   ReadTold       what a read of 17h answers and leaves: Blind, or the code
 --   status-read    .. of a call that reads 17h
 use mathlib.Core.Path.{_≡_, refl, ap, ap₂, _∙_}
@@ -14,17 +15,18 @@ use lib.Dec.{eqb}
 use borrow.Author.Tests.{eqb-true, not-true}
 use Rattle.chip.specs.Choice.{pick, both, either}
 use Rattle.chip.specs.Lines.{codeOf}
-use Rattle.chip.specs.Interrupts.{busy, withoutInterrupt}
-use Rattle.chip.specs.Commands.{commanded, reset}
+use Rattle.chip.specs.Interrupts.{interrupted, busy, withoutInterrupt}
+use Rattle.chip.specs.Commands.{isConnected, isReady, isValid, entryOf, table, isRefusedBusy, accepted, disconnected, carriedOut, commanded, reset}
+use Rattle.chip.specs.Answers.{done}
 use Rattle.chip.specs.Registers as R
 use Rattle.chip.specs.Calls.{Call, Outcome, pointer, auxiliary, register, block, time, answer, reselection, request, free, isGood, isSet, plain, step, carried}
 use Rattle.chip.specs.declared.State.{State}
 use Rattle.chip.specs.declared.Reply.{Reply}
 use Rattle.chip.specs.declared.Answer.the-variants.{Done, Blind}
-use Rattle.chip.specs.declared.Pending.the-variants.{Interrupt}
-use Rattle.unread.specs.Status.{isCommand, isReset, isAnswer, readsAt}
+use Rattle.chip.specs.declared.Pending.the-variants.{Nothing, Interrupt}
+use Rattle.unread.specs.Status.{isCommand, isReset, isDisconnect, isAnswer, readsAt}
 use Rattle.chip.proofs.Cases.{by-pick, by-case, by-test, both-first, both-second}
-use Rattle.unread.proofs.Choosing.{clash}
+use Rattle.unread.proofs.Choosing.{clash, not-first}
 use Rattle.unread.proofs.Telling.{ToldState, so, ToldReply, silent}
 use Rattle.unread.proofs.Host.{accessed-tells, block-tells, block-written-tells}
 use Rattle.unread.proofs.Bus.{passed-tells, answered-tells, reselected-tells, requested-tells, freed-tells}
@@ -132,15 +134,36 @@ reading a free s e = clash e refl
 pub data ReadTold (s : State) : Outcome → Type 0 where
   blind : {o : Outcome} → o .answer ≡ Blind → o .state .status .code ≡ s .status .code
       → o .state .status .pending ≡ s .status .pending → ReadTold s o
-  read : {o : Outcome} → o .answer ≡ Done (s .status .code) → o .state .status .code ≡ s .status .code
+  read : {o : Outcome} → busy s ≡ false → o .answer ≡ Done (s .status .code) → o .state .status .code ≡ s .status .code
       → o .state .status .pending ≡ withoutInterrupt (s .status .pending) → ReadTold s o
 
-readable : (b : ℕ) (s : State) → ReadTold s (plain (R.stepped 0x17 (pick false (R.writtenAt 0x17 b s) (R.readAt 0x17 s))))
+readable : (b : ℕ) (s : State) → busy s ≡ false
+    → ReadTold s (plain (R.stepped 0x17 (pick false (R.writtenAt 0x17 b s) (R.readAt 0x17 s))))
 unfolding R.stepped R.readAt pick
-readable b s = read refl refl refl
+readable b s e = read e refl refl refl
+
+-- 17h is not Blind only where no command runs
+seen-idle : (s : State) → R.isBlind false 0x17 s ≡ false → busy s ≡ false
+unfolding R.isBlind both either
+seen-idle s b = not-first (busy s) true b refl
 
 pub status-read : (c : Call) (s : State) → readsAt 0x17 c s ≡ true → ReadTold s (step c s)
 unfolding R.stepped R.accessedAt
 status-read c s e =
     let h : Reading 0x17 c s = reading 0x17 c s e in
-    rw (h .gives) (by-pick (λ (r : Reply). ReadTold s (plain (R.stepped 0x17 r))) _ (blind refl refl refl) (readable (h .byte) s))
+    rw (h .gives)
+    (by-case (λ (r : Reply). ReadTold s (plain (R.stepped 0x17 r))) _ (λ b. blind refl refl refl) (λ b. readable (h .byte) s (seen-idle s b)))
+
+-- a Disconnect that finds the controller connected, with no INT, is taken
+disconnect-gives : (b : ℕ) (s : State) → codeOf b ≡ 0x04 → interrupted s ≡ false → isConnected (s .wire .connection) ≡ true
+    → commanded b s ≡ done 0 (disconnected (accepted b s))
+unfolding commanded carriedOut isRefusedBusy isValid isReady entryOf table both either pick
+disconnect-gives b s k i x = by-test (busy s) (λ e. rw (k, i, x, e)) (λ e. rw (k, i, x, e))
+
+pub disconnect-told : (c : Call) (s : State) → isDisconnect c s ≡ true → interrupted s ≡ false
+    → (step c s .state .status .code ≡ s .status .code) × (step c s .state .status .pending ≡ Nothing)
+unfolding isDisconnect disconnected accepted R.stepped
+disconnect-told c s e i =
+    let h : Issued 0x04 c s = issued 0x04 c s (both-first _ _ e) in
+    let g = disconnect-gives (h .byte) s (h .code) i (both-second (isCommand 0x04 c s) _ e) in
+    rw (h .leaves, g) (refl, refl)

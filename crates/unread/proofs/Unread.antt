@@ -19,7 +19,7 @@ use Rattle.unread.specs.Status.{isReset, readsAt, raised}
 use Rattle.unread.specs.Unread.{UnreadStatusKept, CodeMovesOnlyByRaising}
 use Rattle.chip.proofs.Cases.{by-test, both-first, both-second}
 use Rattle.unread.proofs.Choosing.{clash}
-use Rattle.unread.proofs.Telling.{Standing, Tells, silent, moves, selects, settles, begins, raises, reads, resets}
+use Rattle.unread.proofs.Telling.{settles-quiet, Standing, Tells, silent, moves, selects, settles, begins, raises, reads, resets}
 use Rattle.unread.proofs.Told.{told, reset-told}
 
 module _ {c : Call} {s : State} where
@@ -27,7 +27,7 @@ module _ {c : Call} {s : State} where
   code-stays (silent a) i r = refl
   code-stays (moves x) i r = refl
   code-stays (selects e q n) i r = refl
-  code-stays (settles j p x) i r = refl
+  code-stays (settles h) i r = refl
   code-stays (begins u h x) i r = refl
   code-stays (raises j h x) i r = clash i j
   code-stays (reads e a) i r = refl
@@ -37,7 +37,7 @@ module _ {c : Call} {s : State} where
   int-stays (silent a) i r = i
   int-stays (moves x) i r = i
   int-stays (selects e q n) i r = i
-  int-stays (settles j p x) i r = clash i j
+  int-stays (settles h) i r = clash i (settles-quiet h)
   int-stays (begins u h x) i r = clash i (rw u)
   int-stays (raises j h x) i r = refl
   int-stays (reads e a) i r = clash e r
@@ -47,7 +47,7 @@ module _ {c : Call} {s : State} where
   int-with (silent a) n = absurd (n refl)
   int-with (moves x) n = absurd (n refl)
   int-with (selects e q m) n = absurd (n refl)
-  int-with (settles j p x) n = absurd (n refl)
+  int-with (settles h) n = absurd (n refl)
   int-with (begins u h x) n = absurd (n refl)
   int-with (raises j h x) n = refl
   int-with (reads e a) n = absurd (n refl)

@@ -2,7 +2,8 @@
 --   Because c s k        the table: the call c, made in s, raises the code k
 --   Brings c s k         its rows that end a running command: k is raised at once, or when the incoming bytes are read out
 --   Begins c s k         such a row with incoming bytes unread: an ending with k begins
---   ReadsOut c s k       the call c reads the last incoming byte of an ending with k: at 19h, or by a block
+--   ReadsLast c s        the call c reads the last incoming byte that waits: at 19h, or by a block
+--   ReadsOut c s k       .. of an ending with k
 --   RaisedBecause f      the table is sound and complete for the step f
 --   EndingBecause f      an ending with k begins exactly where the table says so
 --   Quiet s              nothing is pending in s: no INT and no ending
@@ -178,12 +179,15 @@ pub data Begins : Call → State → ℕ → Type 0 where
   keeps-last : {n b m : ℕ} {s : State} → LastMessage n b m s → isIncoming (s .transfer .direction) ≡ true
       → Begins (request n b m) s 0x20
 
-pub data ReadsOut : Call → State → ℕ → Type 0 where
-  byte : {c : Call} {s : State} {k : ℕ} → readsAt 0x19 c s ≡ true → isIncoming (s .transfer .direction) ≡ true
-      → waits (s .fifo) ≡ 1 → s .status .pending ≡ Ending k → ReadsOut c s k
-  slice : {m : ℕ} {l : List ℕ} {s : State} {k : ℕ} → isGood (block m l) ≡ true → isSet m ≡ false
-      → isIncoming (s .transfer .direction) ≡ true → 0 < waits (s .fifo) → waits (s .fifo) ≤ length l
-      → s .status .pending ≡ Ending k → ReadsOut (block m l) s k
+pub data ReadsLast : Call → State → Type 0 where
+  byte : {c : Call} {s : State} → readsAt 0x19 c s ≡ true → isIncoming (s .transfer .direction) ≡ true → waits (s .fifo) ≡ 1
+      → ReadsLast c s
+  slice : {m : ℕ} {l : List ℕ} {s : State} → isGood (block m l) ≡ true → isSet m ≡ false
+      → isIncoming (s .transfer .direction) ≡ true → 0 < waits (s .fifo) → waits (s .fifo) ≤ length l → ReadsLast (block m l) s
+
+pub record ReadsOut (c : Call) (s : State) (k : ℕ) : Type 0 where
+  pub last : ReadsLast c s
+  pub ending : s .status .pending ≡ Ending k
 
 pub data Because : Call → State → ℕ → Type 0 where
   brings : {c : Call} {s : State} {k : ℕ} → Brings c s k → unread s ≡ false → Because c s k

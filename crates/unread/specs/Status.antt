@@ -2,6 +2,8 @@
 --   isCommand k c s   the call c, made in s, writes a command with the code k to 18h
 --   isReset c s       .. the Reset command
 --   isSelection c s   .. one of the four that select, 06 to 09
+--   isDisconnect c s  .. the Disconnect command, while connected
+--   isDropped c s     .. one that drops an ending with its bytes and its code: Reset, or Disconnect while connected
 --   isAnswer c        the call c is an Answer
 --   readsAt a c s     the call c, made in s, reads the register at the address a
 --   raised c s t      the call c, which led from s to t, raised the code that t shows at 17h
@@ -12,6 +14,7 @@ use lib.Dec.{eqb}
 use Rattle.chip.specs.Choice.{both, either}
 use Rattle.chip.specs.Lines.{codeOf}
 use Rattle.chip.specs.Interrupts.{interrupted}
+use Rattle.chip.specs.Commands.{isConnected}
 use Rattle.chip.specs.Calls.{Call, pointer, auxiliary, register, block, time, answer, reselection, request, free, isGood, isSet}
 use Rattle.chip.specs.declared.State.{State}
 
@@ -44,6 +47,12 @@ isReset c s = isCommand 0x00 c s
 unfoldable pub isSelection : Call → State → Bool
 isSelection c s =
     either (isCommand 0x06 c s) (either (isCommand 0x07 c s) (either (isCommand 0x08 c s) (isCommand 0x09 c s)))
+
+unfoldable pub isDisconnect : Call → State → Bool
+isDisconnect c s = both (isCommand 0x04 c s) (isConnected (s .wire .connection))
+
+unfoldable pub isDropped : Call → State → Bool
+isDropped c s = either (isReset c s) (isDisconnect c s)
 
 abbrev pub isAnswer : Call → Bool
 isAnswer (pointer m b) = false
