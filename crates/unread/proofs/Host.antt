@@ -3,6 +3,11 @@
 --   accessed-tells    a register access
 --   block-tells block-written-tells   a block
 --   some-wait holds-some one-less     how many bytes wait
+--   Pops pops         what one read of the Data register leads to
+--   written-stands block-stands       a write of it leaves code, what is pending, connection and command
+--   going             what holds where a block goes on and where it stops
+--   invalid-idle select-idle abort-ends is-disconnect   what a command that is not refused by a busy controller, or valid, finds
+--   isSelect          the code is one of the four that select
 use mathlib.Core.Path.{_≡_, refl, sym, ap, _∙_}
 use mathlib.Core.Bool.{Bool, true, false, not}
 use mathlib.Core.List.{List, [], _∷_}
@@ -54,12 +59,12 @@ unfolding busy
 not-busy-ends s e = either-rest (isRunning (s .transfer .running)) _ e
 
 -- a command that is not valid and not refused by a busy controller: nothing runs
-invalid-idle : (k : ℕ) (s : State) → isRefusedBusy k s ≡ false → isValid k s ≡ false → busy s ≡ false
+pub invalid-idle : (k : ℕ) (s : State) → isRefusedBusy k s ≡ false → isValid k s ≡ false → busy s ≡ false
 unfolding isRefusedBusy either
 invalid-idle k s r v = not-first (busy s) _ r (by-test (isTwo (entryOf k .level)) (λ e. rw e) (λ e. rw (e, v)))
 
 -- the four commands that select
-isSelect : ℕ → Bool
+unfoldable pub isSelect : ℕ → Bool
 isSelect k = either (eqb k 0x06) (either (eqb k 0x07) (either (eqb k 0x08) (eqb k 0x09)))
 
 each-select : (P : ℕ → Type 0) (k : ℕ) → isSelect k ≡ true → P 0x06 → P 0x07 → P 0x08 → P 0x09 → P k
@@ -67,7 +72,7 @@ unfolding isSelect
 each-select P k e x y z w = one-or P 0x06 k _ e x (λ f. one-or P 0x07 k _ f y (λ g. one-of P 0x08 0x09 k g z w))
 
 -- nor does anything run where one that selects is not refused so
-select-idle : (k : ℕ) (s : State) → isSelect k ≡ true → isRefusedBusy k s ≡ false → busy s ≡ false
+pub select-idle : (k : ℕ) (s : State) → isSelect k ≡ true → isRefusedBusy k s ≡ false → busy s ≡ false
 unfolding isRefusedBusy either entryOf table
 select-idle k s w = each-select (λ (j : ℕ). isRefusedBusy j s ≡ false → busy s ≡ false) k w free-of free-of free-of free-of
   where
@@ -111,7 +116,7 @@ abort-ready : (k : ℕ) (s : State) → eqb k 0x01 ≡ true → isValid k s ≡ 
 unfolding isValid isReady pick
 abort-ready k s e v = rw e at (both-second (isPlace (entryOf k .place) (s .wire .connection)) _ v)
 
-abort-ends : (k : ℕ) (s : State) → eqb k 0x01 ≡ true → isValid k s ≡ true → ends s ≡ false
+pub abort-ends : (k : ℕ) (s : State) → eqb k 0x01 ≡ true → isValid k s ≡ true → ends s ≡ false
 abort-ends k s e v = not-true (ends s) (both-second (busy s) _ (abort-ready k s e v))
 
 abort-runs : (k : ℕ) (s : State) → eqb k 0x01 ≡ true → isValid k s ≡ true → isRunning (s .transfer .running) ≡ true
@@ -135,7 +140,7 @@ module _
   still = silent (λ q. refl)
 
   -- a valid Disconnect finds the controller connected
-  is-disconnect : eqb (codeOf b) 0x04 ≡ true → isValid (codeOf b) s ≡ true → isDisconnect (register m b) s ≡ true
+  pub is-disconnect : eqb (codeOf b) 0x04 ≡ true → isValid (codeOf b) s ≡ true → isDisconnect (register m b) s ≡ true
   unfolding isDisconnect isValid entryOf table both
   is-disconnect e v =
       let k : codeOf b ≡ 0x04 = eqb-true _ _ e in
@@ -204,7 +209,7 @@ module _
 -- the Data register
 
 -- one read of the Data register leads from s to t: nothing, one byte less, or the last byte of an ending
-data Pops (s : State) : State → Type 0 where
+pub data Pops (s : State) : State → Type 0 where
   nothing-read : Pops s s
   one-read : isIncoming (s .transfer .direction) ≡ true → isEmpty (s .fifo) ≡ false → Pops s (setFifo (pop (s .fifo)) s)
   ending-read : {k : ℕ} → isIncoming (s .transfer .direction) ≡ true → waits (s .fifo) ≡ 1 → s .status .pending ≡ Ending k
@@ -258,7 +263,7 @@ pops-in s d =
     last-one : dbr s ≡ true → isEmpty (pop (s .fifo)) ≡ true → waits (s .fifo) ≡ 1
     last-one e w = omega (arith, some-wait _ (holds e), one-less _ (holds e), none-wait _ w)
 
-pops : (s : State) → Pops s (dataRead s .state)
+pub pops : (s : State) → Pops s (dataRead s .state)
 unfolding dataRead
 pops s = by-way _ refl
   where
@@ -284,7 +289,7 @@ then (wait-read d w e) (drains-wait d' w' v f) = clash (ap isEnding f) refl
 then (wait-read d w e) (drains-ending d' w' v f) = clash (ap isEnding f) refl
 
 -- what holds where a block goes on and where it stops holds
-going : (P : Moved → Type 0) (a : Answer) (on : ℕ → Moved) (stop : Moved) → ((v : ℕ) → P (on v)) → P stop → P (goOn a on stop)
+pub going : (P : Moved → Type 0) (a : Answer) (on : ℕ → Moved) (stop : Moved) → ((v : ℕ) → P (on v)) → P stop → P (goOn a on stop)
 going P (Done v) on stop x y = x v
 going P Held on stop x y = y
 going P OutOfPlace on stop x y = y
@@ -303,7 +308,7 @@ block-drains (x ∷ l) s =
     (λ v. then (pops s) (block-drains l (dataRead s .state)))
     drains-nothing
 
-written-stands : (b : ℕ) (s : State) → standing (dataWritten b s .state) ≡ standing s
+pub written-stands : (b : ℕ) (s : State) → standing (dataWritten b s .state) ≡ standing s
 unfolding dataWritten
 written-stands b s = by-way (s .transfer .direction)
   where
@@ -312,7 +317,7 @@ written-stands b s = by-way (s .transfer .direction)
     by-way In = refl
     by-way Out = by-pick (λ (r : Reply). standing (r .state) ≡ standing s) _ refl refl
 
-block-stands : (l : List ℕ) (s : State) → standing (blockWritten l s .state) ≡ standing s
+pub block-stands : (l : List ℕ) (s : State) → standing (blockWritten l s .state) ≡ standing s
 unfolding blockWritten
 block-stands [] s = refl
 block-stands (x ∷ l) s =

@@ -8,5 +8,6 @@ pub mod History
 pub mod Asked
 pub mod Rows
 pub mod Because
+pub mod Ending
 pub mod Codes
 pub mod Refuted

@@ -2,7 +2,7 @@
 --   aborts-connected-row aborts-row refuses-row resumes-row   commands
 --   times-out-row answers-row reselects-row                   events
 --   byte-row slice-row                                        reads
---   Emptied block-empties   what a read of all incoming bytes leads to
+--   Emptied block-empties last-stands   what the read of the last incoming byte leads to
 use mathlib.Core.Path.{_≡_, refl, sym, ap, _∙_}
 use mathlib.Core.Bool.{Bool, true, false}
 use mathlib.Core.List.{List, [], _∷_}
@@ -37,9 +37,10 @@ use Rattle.chip.specs.declared.Direction.the-variants.{Unfixed, In, Out}
 use Rattle.chip.specs.declared.Pending.{Pending}
 use Rattle.chip.specs.declared.Pending.the-variants.{Nothing, Interrupt, Ending, ReadOut}
 use Rattle.unread.specs.Status.{isCommand, readsAt}
-use Rattle.unread.specs.Because.{Quiet}
+use Rattle.unread.specs.Because.{Quiet, ReadsLast, byte, slice}
 use Rattle.chip.proofs.Cases.{by-test}
 use Rattle.unread.proofs.Choosing.{taken, passed-over, clash, second-fails, one-of}
+use Rattle.unread.proofs.Telling.{standing}
 use Rattle.unread.proofs.Host.{some-wait, holds-some, one-less}
 use Rattle.unread.proofs.Told.{good-step, Issued, issued, Reading, reading}
 use Rattle.unread.proofs.Asked.{seen, shown, Raised, Ended, raised-by, ended-by, open-event}
@@ -233,7 +234,7 @@ settled-empty (Ending k) s e = by-way (s .transfer .direction)
 settled-empty ReadOut s e = e
 
 -- the incoming bytes are read to the last, which leads from s to t: what is pending settles
-pub data Emptied (s t : State) : Type 0 where
+data Emptied (s t : State) : Type 0 where
   emptied : (q : Fifo) → isEmpty q ≡ true → t ≡ settledBy (s .status .pending) (setFifo q s) → Emptied s t
 
 more-settles : (s : State) → isEmpty (pop (s .fifo)) ≡ false → settled (setFifo (pop (s .fifo)) s) ≡ setFifo (pop (s .fifo)) s
@@ -252,7 +253,7 @@ last-empties l s z =
 earlier-empties : {s t : State} {q : Fifo} → Emptied (setFifo q s) t → Emptied s t
 earlier-empties (emptied q e f) = emptied q e f
 
-pub block-empties : (l : List ℕ) (s : State) → isIncoming (s .transfer .direction) ≡ true → 0 < waits (s .fifo)
+block-empties : (l : List ℕ) (s : State) → isIncoming (s .transfer .direction) ≡ true → 0 < waits (s .fifo)
     → waits (s .fifo) ≤ length l → Emptied s (R.blockRead l s .state)
 unfolding R.blockRead
 block-empties [] s d v u = absurd (omega arith)
@@ -294,3 +295,16 @@ pub byte-row : (c : Call) (s : State) (k : ℕ) → readsAt 0x19 c s ≡ true �
 byte-row c s k e d w p =
     let h : Reading 0x19 c s = reading 0x19 c s e in
     stepped-ended c s 0x19 _ (h .gives) (rw (data-reachable (h .byte) s) (emptied-ends (data-empties s d w) p))
+
+-- the read of the last byte, in the words of what stands then
+emptied-stands : {s t : State} → Emptied s t → (q : Fifo) × (standing t ≡ standing (settledBy (s .status .pending) (setFifo q s)))
+emptied-stands (emptied q e l) = (q, ap standing l)
+
+pub last-stands : {c : Call} {s : State} → ReadsLast c s
+    → (q : Fifo) × (standing (step c s .state) ≡ standing (settledBy (s .status .pending) (setFifo q s)))
+unfolding R.stepped carried
+last-stands (byte {c} {s} e d w) =
+    let h : Reading 0x19 c s = reading 0x19 c s e in
+    rw (h .gives, data-reachable (h .byte) s) (emptied-stands (data-empties s d w))
+last-stands (slice {m} {l} {s} g f d v u) =
+    rw (good-step (block m l) s g, passed-over (R.blockWritten l s) (R.blockRead l s) f) (emptied-stands (block-empties l s d v u))

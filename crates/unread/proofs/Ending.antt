@@ -1,0 +1,295 @@
+-- The laws of specs/Ending.antt hold of the step.
+--   ending-is-still   in an ending no bus event changes the controller
+--   ending-stays      only a Reset, a Disconnect while connected or the read of its last byte ends it
+--   ending-bytes      .. and commands other than the first two leave its bytes
+--   Refuses refuses   of a reply, or an outcome: nothing changed, and the answer is a refusal
+use mathlib.Core.Path.{_≡_, refl, sym, ap, _∙_}
+use mathlib.Core.Bool.{Bool, true, false, not}
+use mathlib.Core.List.{List, [], _∷_}
+use Prim.Native.Nat.{ℕ, zero, suc, _+_}
+use native.Mathlib.Omega.{arith}
+use lib.Dec.{eqb, leb}
+use lib.ListN.{getD}
+use borrow.Author.Tests.{eqb-true}
+use Rattle.chip.specs.Choice.{pick, both, either}
+use Rattle.chip.specs.Phases.{phaseOf}
+use Rattle.chip.specs.Lines.{codeOf, qualifies}
+use Rattle.chip.specs.Fifo.{isEmpty}
+use Rattle.chip.specs.State.{setFifo}
+use Rattle.chip.specs.Interrupts.{isEnding, ends, isRunning, busy, withoutInterrupt, settledBy}
+use Rattle.chip.specs.Commands.{isTwo, isValid, isRefusedBusy, entryOf, table, leftOut, carriedOut, accepted, commanded}
+use Rattle.chip.specs.Answers.{done, held}
+use Rattle.chip.specs.Registers as R
+use Rattle.chip.specs.Events as E
+use Rattle.chip.specs.Calls.{Call, Outcome, pointer, auxiliary, register, block, time, answer, reselection, request, free, isGood, isSet, lentBy, plain, carried, step}
+use Rattle.chip.specs.declared.State.{State}
+use Rattle.chip.specs.declared.Reply.{Reply}
+use Rattle.chip.specs.declared.Phase.{Phase}
+use Rattle.chip.specs.declared.Entry.{Entry}
+use Rattle.chip.specs.declared.Answer.the-variants.{BadNumber}
+use Rattle.chip.specs.declared.Pending.{Pending}
+use Rattle.chip.specs.declared.Pending.the-variants.{Nothing, Interrupt, Ending, ReadOut}
+use Rattle.chip.specs.declared.Connection.{Connection}
+use Rattle.chip.specs.declared.Connection.the-variants.{Disconnected, Selecting, Waiting, Connected}
+use Rattle.unread.specs.Status.{isCommand, isReset, isDisconnect, isDropped, readsAt}
+use Rattle.unread.specs.Because as B
+use Rattle.unread.specs.Because.{ReadsLast}
+use Rattle.unread.specs.Ending.{isEvent, isTime, isRefusal, Untouched, isDataAccess, EndingIsStill, EndingStays}
+use Rattle.chip.proofs.Cases.{by-pick, by-case, by-test, both-first, both-second, either-first, either-rest, either-second, either-last}
+use Rattle.unread.proofs.Choosing.{clash, taken, passed-over, one-or, one-of}
+use Rattle.unread.proofs.Telling.{standing, Standing, disconnects, reads-out, has-read, Tells, silent, moves, selects, settles, begins, raises, reads, resets}
+use Rattle.unread.proofs.Host.{invalid-idle, isSelect, select-idle, abort-ends, is-disconnect}
+use Rattle.unread.proofs.Told.{told, good-step}
+use Rattle.unread.proofs.Because.{Found, quiet, reading-out, resetting, because-found}
+use Rattle.unread.proofs.Rows.{last-stands}
+
+-- no bus event
+
+pub record Refuses (s : State) (r : Reply) : Type 0 where
+  pub same : r .state ≡ s
+  pub refused : isRefusal (r .answer) ≡ true
+
+pub refuses : (c : Call) (s : State) (r : Reply) → step c s ≡ plain r → Refuses s r → Untouched step c s
+unfolding either
+refuses c s r e h =
+    record { same = ap (λ (o : Outcome). o .state) e ∙ h .same; not-taken = rw (e, h .refused) (either-last (isTime c)) }
+
+-- operands out of range: Bad number
+pub refuses-bad : (c : Call) (s : State) → isGood c ≡ false → Untouched step c s
+unfolding step
+refuses-bad c s g =
+    let e : step c s ≡ record { answer = BadNumber; state = s; lent = lentBy c } = passed-over _ _ g in
+    record { same = ap (λ (o : Outcome). o .state) e; not-taken = rw e (either-last (isTime c)) }
+
+-- a Time is Done, and changes nothing
+pub passes : (c : Call) (s : State) → isTime c ≡ true → step c s ≡ plain (done 0 s) → Untouched step c s
+unfolding either
+passes c s t e = record { same = ap (λ (o : Outcome). o .state) e; not-taken = rw t }
+
+module _ (s : State) (e : ends s ≡ true) where
+  abbrev Back : Reply → Type 0
+  Back r = Refuses s r
+
+  held-back : (r : Reply) → Back (pick (ends s) (held s) r)
+  unfolding pick
+  held-back r = rw e (record { same = refl; refused = refl })
+
+  answer-back : (x : Connection) → Back (E.answeredBy x s)
+  unfolding E.answeredSelecting
+  answer-back Disconnected = record { same = refl; refused = refl }
+  answer-back Selecting = held-back _
+  answer-back Waiting = record { same = refl; refused = refl }
+  answer-back Connected = record { same = refl; refused = refl }
+
+  reselection-back : (lines : ℕ) (x : Connection) → Back (E.reselectedBy x lines s)
+  reselection-back lines Disconnected = held-back _
+  reselection-back lines Selecting = held-back _
+  reselection-back lines Waiting = held-back _
+  reselection-back lines Connected = record { same = refl; refused = refl }
+
+  request-back : (p : Phase) (b : ℕ) (bad : Bool) (x : Connection) → Back (E.remembered p (E.requestedBy x p b bad s))
+  unfolding E.remembered E.requestedConnected pick
+  request-back p b bad Disconnected = record { same = refl; refused = refl }
+  request-back p b bad Selecting = record { same = refl; refused = refl }
+  request-back p b bad Waiting = record { same = refl; refused = refl }
+  request-back p b bad Connected = rw e (record { same = refl; refused = refl })
+
+  free-back : (x : Connection) → Back (E.freedBy x s)
+  free-back Disconnected = record { same = refl; refused = refl }
+  free-back Selecting = record { same = refl; refused = refl }
+  free-back Waiting = record { same = refl; refused = refl }
+  free-back Connected = held-back _
+
+  event-back : (c : Call) → isEvent c ≡ true → isGood c ≡ true → Untouched step c s
+  unfolding carried E.passed E.answered E.reselected E.requested E.freed
+  event-back (pointer m b) v g = clash v refl
+  event-back auxiliary v g = clash v refl
+  event-back (register m b) v g = clash v refl
+  event-back (block m l) v g = clash v refl
+  event-back (time n) v g = passes (time n) s refl (good-step (time n) s g ∙ ap plain (taken _ _ e))
+  event-back answer v g = refuses answer s (E.answered s) (good-step answer s g) (answer-back (s .wire .connection))
+  event-back (reselection lines) v g =
+      refuses (reselection lines) s (E.reselected lines s) (good-step (reselection lines) s g)
+      (by-pick Back (qualifies lines s) (reselection-back lines (s .wire .connection)) (record { same = refl; refused = refl }))
+  event-back (request p b q) v g =
+      refuses (request p b q) s (E.requested (phaseOf p) b (isSet q) s) (good-step (request p b q) s g)
+      (request-back (phaseOf p) b (isSet q) (s .wire .connection))
+  event-back free v g = refuses free s (E.freed s) (good-step free s g) (free-back (s .wire .connection))
+
+pub ending-is-still : EndingIsStill step
+ending-is-still c s e v = by-test (isGood c) (event-back s e c v) (refuses-bad c s)
+
+-- what is pending stays
+
+same-ending : (q : Pending) → isEnding q ≡ true → withoutInterrupt q ≡ q
+same-ending Nothing e = clash e refl
+same-ending Interrupt e = clash e refl
+same-ending (Ending k) e = refl
+same-ending ReadOut e = refl
+
+module _ {c : Call} {s : State} (e : ends s ≡ true) (r : isReset c s ≡ false) (d : isDisconnect c s ≡ false) (n : ReadsLast c s → ⊥) where
+  found-ends : {P : Type 0} {k : ℕ} → Found c s k → P
+  found-ends (quiet q) = clash e (ap isEnding q)
+  found-ends (reading-out h) = absurd (n (h .last))
+  found-ends (resetting f) = clash f r
+
+  pending-stays : {z : Standing} → Tells c s z → z .pending ≡ s .status .pending
+  pending-stays (silent a) = refl
+  pending-stays (moves x) = refl
+  pending-stays (selects f q m) = refl
+  pending-stays (settles (disconnects f i)) = clash f d
+  pending-stays (settles (reads-out q)) = clash e (ap isEnding q)
+  pending-stays (settles (has-read q l)) = absurd (n l)
+  pending-stays (begins q h x) = clash e (ap isEnding q)
+  pending-stays (raises i h x) = found-ends (because-found h)
+  pending-stays (reads f a) = same-ending (s .status .pending) e
+  pending-stays (resets f x) = clash f r
+
+-- commands in an ending: only those of Level I get through, and of these Abort is not valid
+
+isLevelOne : ℕ → Bool
+isLevelOne k = either (eqb k 0x00) (either (eqb k 0x01) (either (eqb k 0x02) (either (eqb k 0x03) (either (eqb k 0x04) (eqb k 0x0F)))))
+
+areRight : ℕ → List Entry → Bool
+areRight n [] = true
+areRight n (x ∷ l) = both (either (isTwo (x .level)) (isLevelOne n)) (areRight (suc n) l)
+
+-- the place k of a list that starts at n
+at : ℕ → ℕ → ℕ
+at n zero = n
+at n (suc k) = at (suc n) k
+
+at-sum : (n k : ℕ) → at n k ≡ k + n
+unfolding at
+at-sum n zero = omega arith
+at-sum n (suc k) = omega (arith, at-sum (suc n) k)
+
+each-right : (n : ℕ) (l : List Entry) → areRight n l ≡ true → (k : ℕ) → either (isTwo (getD l k leftOut .level)) (isLevelOne (at n k)) ≡ true
+unfolding areRight at either
+each-right n [] e k = refl
+each-right n (x ∷ l) e zero = both-first _ _ e
+each-right n (x ∷ l) e (suc k) = each-right (suc n) l (both-second (either (isTwo (x .level)) (isLevelOne n)) _ e) k
+
+level-one : (k : ℕ) → isTwo (entryOf k .level) ≡ false → isLevelOne k ≡ true
+unfolding entryOf table areRight isLevelOne both either
+level-one k e =
+    let z : at 0 k ≡ k = omega (arith, at-sum 0 k) in
+    rw z at (either-second (isTwo (entryOf k .level)) (isLevelOne (at 0 k)) (each-right 0 table refl k) e)
+
+each-level-one : (P : ℕ → Type 0) (k : ℕ) → isLevelOne k ≡ true → P 0x00 → P 0x01 → P 0x02 → P 0x03 → P 0x04 → P 0x0F → P k
+unfolding isLevelOne
+each-level-one P k e x0 x1 x2 x3 x4 xF =
+    one-or P 0x00 k _ e x0
+    (λ f. one-or P 0x01 k _ f x1 (λ g. one-or P 0x02 k _ g x2 (λ h. one-or P 0x03 k _ h x3 (λ i. one-of P 0x04 0x0F k i x4 xF))))
+
+-- the FIFO, the running command with its way, and the connection stay
+pub record Stays (s t : State) : Type 0 where
+  pub bytes : t .fifo ≡ s .fifo
+  pub transfer : t .transfer ≡ s .transfer
+  pub connection : t .wire .connection ≡ s .wire .connection
+
+pub stay : (s : State) → Stays s s
+stay s = record { bytes = refl; transfer = refl; connection = refl }
+
+module _ (s : State) (e : ends s ≡ true) where
+  is-busy : busy s ≡ true
+  unfolding busy
+  is-busy = rw e (either-last (isRunning (s .transfer .running)))
+
+  -- what is not refused is of Level I
+  unrefused : (k : ℕ) → isRefusedBusy k s ≡ false → isLevelOne k ≡ true
+  unfolding isRefusedBusy both
+  unrefused k r = level-one k (either-first _ _ (rw is-busy at r))
+
+  carried-stays : (b k : ℕ) (single : Bool) → isLevelOne k ≡ true → eqb k 0x00 ≡ false → eqb k 0x04 ≡ false → isValid k s ≡ true
+      → Stays s (carriedOut k single (accepted b s))
+  unfolding carriedOut accepted pick
+  carried-stays b k single l =
+      each-level-one (λ (j : ℕ). eqb j 0x00 ≡ false → eqb j 0x04 ≡ false → isValid j s ≡ true → Stays s (carriedOut j single (accepted b s)))
+      k l (λ z f v. clash refl z) (λ z f v. clash e (abort-ends 0x01 s refl v))
+      (λ z f v. record { bytes = refl; transfer = refl; connection = refl })
+      (λ z f v. record { bytes = refl; transfer = refl; connection = refl })
+      (λ z f v. clash refl f)
+      (λ z f v. record { bytes = refl; transfer = refl; connection = refl })
+
+  abbrev Leaves : Reply → Type 0
+  Leaves r = Stays s (r .state)
+
+  commanded-stays : (b : ℕ) → eqb (codeOf b) 0x00 ≡ false → (eqb (codeOf b) 0x04 ≡ true → isValid (codeOf b) s ≡ false)
+      → Leaves (commanded b s)
+  unfolding commanded accepted
+  commanded-stays b n d =
+      by-case Leaves _ (λ z. clash z n)
+      (λ z. by-case Leaves _ (λ i. record { bytes = refl; transfer = refl; connection = refl })
+      (λ i. by-case Leaves _ (λ r. record { bytes = refl; transfer = refl; connection = refl })
+      (λ r. by-case Leaves _
+      (λ v. by-test (eqb (codeOf b) 0x04) (λ f. clash v (d f)) (λ f. carried-stays b (codeOf b) _ (unrefused (codeOf b) r) n f v))
+      (λ v. clash is-busy (invalid-idle (codeOf b) s r v)))))
+
+  -- 18h and 19h alone are reachable
+  unreachable : {P : Type 0} (w : Bool) (a : ℕ) → R.isBlind w a s ≡ false → eqb a 0x18 ≡ false → eqb a 0x19 ≡ false → P
+  unfolding R.isBlind both either
+  unreachable w a h m n =
+      let f : both (busy s) (not (either (eqb a 0x18) (eqb a 0x19))) ≡ false = either-rest (both w (eqb a 0x17)) _ (either-rest (leb 0x1A a) _ h) in
+      clash refl (rw (is-busy, m, n) at f)
+
+  read-stays : (a : ℕ) → eqb a 0x19 ≡ false → Leaves (R.readAt a s)
+  unfolding R.readAt
+  read-stays a n =
+      by-pick Leaves _ (record { bytes = refl; transfer = refl; connection = refl })
+      (by-pick Leaves _ (stay s) (by-case Leaves _ (λ f. clash f n) (λ f. stay s)))
+
+  module _ (m b : ℕ) (g : isGood (register m b) ≡ true) (r : isReset (register m b) s ≡ false) (d : isDisconnect (register m b) s ≡ false) where
+    written-stays : isSet m ≡ true → eqb (s .status .pointer) 0x19 ≡ false → R.isBlind (isSet m) (s .status .pointer) s ≡ false
+        → Leaves (R.writtenAt (s .status .pointer) b s)
+    unfolding R.writtenAt isReset isCommand both
+    written-stays w n h =
+        by-case Leaves _
+        (λ a. commanded-stays b (rw (g, w, a) at r)
+        (λ f. by-test (isValid (codeOf b) s) (λ v. clash (is-disconnect m b s g w a f v) d) (λ v. v)))
+        (λ a. unreachable (isSet m) (s .status .pointer) h a n)
+
+    access-stays : eqb (s .status .pointer) 0x19 ≡ false → Leaves (R.accessed (isSet m) b s)
+    unfolding R.accessed R.stepped R.accessedAt
+    access-stays n =
+        let h : Leaves (R.accessedAt (s .status .pointer) (isSet m) b s) =
+            by-case Leaves _ (λ h. stay s) (λ h. by-case Leaves _ (λ w. written-stays w n h) (λ w. read-stays (s .status .pointer) n)) in
+        record { bytes = h .bytes; transfer = h .transfer; connection = h .connection }
+
+  -- every call of the host but an access to the Data register
+  host-stays : (c : Call) → isEvent c ≡ false → isReset c s ≡ false → isDisconnect c s ≡ false → isDataAccess c s ≡ false
+      → Stays s (step c s .state)
+  unfolding step carried R.pointerSet R.pointerRead R.auxiliaryRead both either
+  host-stays (pointer m b) v r d n =
+      by-pick (λ (o : Outcome). Stays s (o .state)) _ (by-pick Leaves _ (record { bytes = refl; transfer = refl; connection = refl }) (stay s)) (stay s)
+  host-stays auxiliary v r d n = by-pick (λ (o : Outcome). Stays s (o .state)) _ (stay s) (stay s)
+  host-stays (register m b) v r d n = by-case (λ (o : Outcome). Stays s (o .state)) _ (λ g. access-stays m b g r d n) (λ g. stay s)
+  host-stays (block m l) v r d n = clash refl n
+  host-stays (time k) v r d n = clash refl v
+  host-stays answer v r d n = clash refl v
+  host-stays (reselection lines) v r d n = clash refl v
+  host-stays (request p b q) v r d n = clash refl v
+  host-stays free v r d n = clash refl v
+
+  bytes-stay : (c : Call) → isReset c s ≡ false → isDisconnect c s ≡ false → isDataAccess c s ≡ false → step c s .state .fifo ≡ s .fifo
+  bytes-stay c r d n =
+      by-test (isEvent c) (λ v. ap (λ (t : State). t .fifo) (ending-is-still c s e v .same)) (λ v. host-stays c v r d n .bytes)
+
+-- the read-out with no code to come, when its last byte is read
+waits-then : {c : Call} {s : State} → s .status .pending ≡ ReadOut → ReadsLast c s
+    → (step c s .state .status .pending ≡ Nothing) × (step c s .state .wire .connection ≡ Waiting)
+unfolding settledBy
+waits-then {c} {s} p l =
+    let h = last-stands l in
+    let z : standing (step c s .state) ≡ standing (settledBy ReadOut (setFifo (h .0) s)) =
+        h .1 ∙ ap (λ (q : Pending). standing (settledBy q (setFifo (h .0) s))) p in
+    (ap (λ (x : Standing). x .pending) z, ap (λ (x : Standing). x .connection) z)
+
+pub ending-stays : EndingStays step
+unfolding isDropped
+ending-stays =
+    record {
+      stays = λ c s e d n. pending-stays e (either-first _ _ d) (either-rest (isReset c s) _ d) n (told c s .tells);
+      bytes-stay = λ c s e d n. bytes-stay s e c (either-first _ _ d) (either-rest (isReset c s) _ d) n;
+      waits-then = λ c s p l. waits-then p l;
+    }
