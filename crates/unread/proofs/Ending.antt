@@ -253,11 +253,11 @@ module _ (s : State) (e : ends s ≡ true) where
     unfolding R.accessed R.stepped R.accessedAt
     access-stays n =
         let h : Leaves (R.accessedAt (s .status .pointer) (isSet m) b s) =
-            by-case Leaves _ (λ h. stay s) (λ h. by-case Leaves _ (λ w. written-stays w n h) (λ w. read-stays (s .status .pointer) n)) in
+        by-case Leaves _ (λ h. stay s) (λ h. by-case Leaves _ (λ w. written-stays w n h) (λ w. read-stays (s .status .pointer) n)) in
         record { bytes = h .bytes; transfer = h .transfer; connection = h .connection }
 
   -- every call of the host but an access to the Data register
-  host-stays : (c : Call) → isEvent c ≡ false → isReset c s ≡ false → isDisconnect c s ≡ false → isDataAccess c s ≡ false
+  pub host-stays : (c : Call) → isEvent c ≡ false → isReset c s ≡ false → isDisconnect c s ≡ false → isDataAccess c s ≡ false
       → Stays s (step c s .state)
   unfolding step carried R.pointerSet R.pointerRead R.auxiliaryRead both either
   host-stays (pointer m b) v r d n =
@@ -282,7 +282,7 @@ unfolding settledBy
 waits-then {c} {s} p l =
     let h = last-stands l in
     let z : standing (step c s .state) ≡ standing (settledBy ReadOut (setFifo (h .0) s)) =
-        h .1 ∙ ap (λ (q : Pending). standing (settledBy q (setFifo (h .0) s))) p in
+    h .1 ∙ ap (λ (q : Pending). standing (settledBy q (setFifo (h .0) s))) p in
     (ap (λ (x : Standing). x .pending) z, ap (λ (x : Standing). x .connection) z)
 
 pub ending-stays : EndingStays step

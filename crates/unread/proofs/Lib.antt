@@ -9,5 +9,6 @@ pub mod Asked
 pub mod Rows
 pub mod Because
 pub mod Ending
+pub mod Placed
 pub mod Codes
 pub mod Refuted

@@ -7,31 +7,36 @@
 --   meddling-refused                                     by EndingsBegun
 --   deaf-refused                                         by SelectionsBegun
 --   mistaken-refused deaf-times-out                      by CodesOnlyBy
+--   drops-refused renames-refused spills-refused         by EndingStays
+--   drops-loses renames-lies                             by NoStatusLost
+--   shrugs-refused                                       by EndingIsStill
 use mathlib.Core.Path.{_≡_, refl, ap}
 use mathlib.Core.Bool.{true}
-use mathlib.Core.List.{List, [], _∷_}
+use mathlib.Core.List.{List, [], _∷_, _++_}
 use Prim.Native.Nat.{ℕ}
 use native.Mathlib.Omega.{arith}
 use lib.ListN.{replicate}
 use Rattle.chip.specs.Choice.{either}
 use Rattle.chip.specs.State.{fresh, setCode, setPending, setPointer, setTimeout, setConnection, setRunning, setDirection, setCount, setFifo}
 use Rattle.chip.specs.Interrupts.{isInterrupt, isEnding}
-use Rattle.chip.specs.Calls.{Call, pointer, auxiliary, register, time, answer, free, kind}
+use Rattle.chip.specs.Calls.{Call, pointer, auxiliary, register, time, answer, request, free, kind, after}
 use Rattle.chip.specs.declared.State.{State}
-use Rattle.chip.specs.declared.Pending.the-variants.{Interrupt}
+use Rattle.chip.specs.declared.Fifo.{Fifo}
+use Rattle.chip.specs.declared.Pending.the-variants.{Interrupt, Ending}
 use Rattle.chip.specs.declared.Connection.the-variants.{Selecting, Connected}
 use Rattle.chip.specs.declared.Running.the-variants.{SelectWithoutAtn, TransferInfo}
 use Rattle.chip.specs.declared.Direction.the-variants.{In}
 use Rattle.chip.proofs.Computing.{everything}
-use Rattle.unread.specs.Status.{isCommand, isReset, isSelection, isDisconnect, readsAt, raised}
+use Rattle.unread.specs.Status.{isCommand, isReset, isSelection, isDisconnect, isDropped, readsAt, raised}
 use Rattle.unread.specs.Unread.{UnreadStatusKept, CodeMovesOnlyByRaising}
 use Rattle.unread.specs.History as H
 use Rattle.unread.specs.History.{NoStatusLost, Orderly}
 use Rattle.unread.specs.Because as B
-use Rattle.unread.specs.Because.{RaisedBecause, EndingBecause}
+use Rattle.unread.specs.Because.{ReadsLast, RaisedBecause, EndingBecause}
+use Rattle.unread.specs.Ending.{EndingIsStill, EndingStays}
 use Rattle.unread.specs.Codes.{EndingsBegun, Unanswered, SelectionsBegun, CodesOnlyBy}
 use Rattle.unread.specs.Wrong as W
-use Rattle.unread.specs.Wrong.{hasty, peeking, mumbling, soft, forgetful, hurried, sluggish, mistaken, meddling, deaf}
+use Rattle.unread.specs.Wrong.{hasty, peeking, mumbling, soft, forgetful, hurried, sluggish, mistaken, meddling, deaf, drops, renames, spills, shrugs}
 use Rattle.unread.proofs.Choosing.{clash}
 use Rattle.unread.proofs.Because.{because-row}
 use Rattle.unread.proofs.Codes.{since-began, since-last, time-ends-nothing}
@@ -132,3 +137,66 @@ deaf-refused h = answered-since (h .begun callsAnswered refl)
 pub deaf-times-out : CodesOnlyBy deaf → ⊥
 unfolding everything deaf W.changed isReset isCommand raised H.run
 deaf-times-out h = answered-since (h .unanswered callsAnswered (time 1) (record { raises = refl; code = refl }))
+
+-- an ending
+
+-- from a fresh controller: a Select-And-Transfer without ATN, the Target takes the command, sends one byte, and then asks for a phase that
+-- is not expected: an ending with 4Ch, and one byte to read
+abbrev callsEnding : List Call
+callsEnding =
+    pointer 1 0x14
+    ∷ register 1 13
+    ∷ pointer 1 0x18
+    ∷ register 1 0x09
+    ∷ answer
+    ∷ request 2 0 0
+    ∷ request 2 0 0
+    ∷ request 2 0 0
+    ∷ request 2 0 0
+    ∷ request 2 0 0
+    ∷ request 2 0 0
+    ∷ request 1 0x5A 0
+    ∷ request 4 0 0
+    ∷ []
+
+-- the state that they lead to
+abbrev held : State
+held = after callsEnding fresh
+
+no-last : (n : ℕ) → ReadsLast (time n) held → ⊥
+unfolding readsAt
+no-last n (B.byte e d w) = clash e refl
+
+nothing-coming : {k : ℕ} → H.nothing ≡ H.coming k → ⊥
+nothing-coming e = let z : _≡_ {A = ℕ} 0 1 = cc in omega arith
+
+pub drops-refused : EndingStays drops → ⊥
+unfolding everything drops W.instead isDropped isReset isDisconnect isCommand
+drops-refused h = clash (ap isEnding (h .stays (time 1) held refl refl (no-last 1))) refl
+
+pub drops-loses : NoStatusLost drops → ⊥
+unfolding everything drops W.instead isReset isDisconnect isCommand readsAt raised H.history H.noted H.run
+drops-loses h = nothing-coming (h .pending-is-owed (callsEnding ++ (time 1 ∷ [])) fresh)
+
+pub renames-refused : EndingStays renames → ⊥
+unfolding everything renames W.instead isDropped isReset isDisconnect isCommand
+renames-refused h = other-code (h .stays (time 1) held refl refl (no-last 1))
+  where
+    other-code : Ending 0x42 ≡ Ending 0x4C → ⊥
+    other-code e = let z : _≡_ {A = ℕ} 0x42 0x4C = cc in omega arith
+
+pub renames-lies : NoStatusLost renames → ⊥
+unfolding everything renames W.instead isReset isDisconnect isCommand readsAt raised H.history H.noted H.run
+renames-lies h = other-code (h .pending-is-owed (callsEnding ++ (time 1 ∷ [])) fresh)
+  where
+    other-code : H.coming 0x42 ≡ H.coming 0x4C → ⊥
+    other-code e = let z : _≡_ {A = ℕ} 0x42 0x4C = cc in omega arith
+
+pub spills-refused : EndingStays spills → ⊥
+unfolding everything spills W.instead isDropped isReset isDisconnect isCommand
+spills-refused h =
+    let z : _≡_ {A = ℕ} 0 1 = ap (λ (q : Fifo). q .held) (h .bytes-stay (time 1) held refl refl refl) in omega arith
+
+pub shrugs-refused : EndingIsStill shrugs → ⊥
+unfolding everything shrugs W.instead
+shrugs-refused h = clash (h (request 1 0x5B 0) held refl refl .not-taken) refl

@@ -9,22 +9,33 @@
 --   mistaken   an Answer raises 42h
 --   meddling   a Free begins an ending with 42h
 --   deaf       an Answer is Done, and the selection goes on
---   changed n g   the step, where calls of kind n are Done and do g instead
+--   drops      Time forgets the ending of a connected Select-And-Transfer without ATN, with its code
+--   renames    Time in an ending makes the code to come 42h
+--   spills     Time in an ending empties the FIFO: nobody can read it out, and the code never comes
+--   shrugs     a Request in an ending is Done, and nothing happens: the board takes it for taken
+--   instead t g   the step, where calls that the test t is true of are Done and do g instead
+--   changed n g   .. where calls of kind n are
+use mathlib.Core.Bool.{Bool, not}
 use Prim.Native.Nat.{ℕ}
 use lib.Dec.{eqb}
-use Rattle.chip.specs.Choice.{pick}
-use Rattle.chip.specs.State.{setCode, setPending}
+use Rattle.chip.specs.Choice.{pick, both}
+use Rattle.chip.specs.State.{empty, setFifo, setCode, setPending}
 use Rattle.chip.specs.Answers.{done, says}
-use Rattle.chip.specs.Interrupts.{settledBy}
-use Rattle.chip.specs.Events.{timedOut}
+use Rattle.chip.specs.Interrupts.{ends, settledBy}
+use Rattle.chip.specs.Commands.{isConnected}
+use Rattle.chip.specs.Events.{isTransfer, setsAtn, timedOut}
 use Rattle.chip.specs.Calls.{Call, Outcome, kind, plain, step}
 use Rattle.chip.specs.declared.State.{State}
 use Rattle.chip.specs.declared.Pending.the-variants.{Nothing, Ending}
 use Rattle.chip.specs.declared.Answer.the-variants.{Done}
 use Rattle.unread.specs.Status.{isReset, readsAt}
 
+unfoldable pub instead : (Call → State → Bool) → (State → State) → Call → State → Outcome
+instead test g c s = pick (test c s) (plain (done 0 (g s))) (step c s)
+
 unfoldable pub changed : ℕ → (State → State) → Call → State → Outcome
-changed n g c s = pick (eqb (kind c) n) (plain (done 0 (g s))) (step c s)
+unfolding instead
+changed n g = instead (λ c s. eqb (kind c) n) g
 
 unfoldable pub hasty : Call → State → Outcome
 hasty = changed 4 timedOut
@@ -60,3 +71,28 @@ meddling = changed 8 (setPending (Ending 0x42))
 
 unfoldable pub deaf : Call → State → Outcome
 deaf = changed 5 (λ s. s)
+
+-- a Time, or a Request, in an ending
+abbrev inEnding : ℕ → Call → State → Bool
+inEnding n c s = both (eqb (kind c) n) (ends s)
+
+-- connected, with Select-And-Transfer without ATN
+abbrev servesNine : State → Bool
+servesNine s =
+    both (isConnected (s .wire .connection)) (both (isTransfer (s .transfer .running)) (not (setsAtn (s .transfer .running))))
+
+unfoldable pub drops : Call → State → Outcome
+unfolding instead
+drops = instead (λ c s. both (inEnding 4 c s) (servesNine s)) (setPending Nothing)
+
+unfoldable pub renames : Call → State → Outcome
+unfolding instead
+renames = instead (inEnding 4) (setPending (Ending 0x42))
+
+unfoldable pub spills : Call → State → Outcome
+unfolding instead
+spills = instead (inEnding 4) (setFifo empty)
+
+unfoldable pub shrugs : Call → State → Outcome
+unfolding instead
+shrugs = instead (inEnding 7) (λ s. s)

@@ -1,0 +1,90 @@
+-- Where an ending that has a code to come leaves the connection: as it is, until Reset or Disconnect.
+--   ending-placed   every call but these two keeps the connection, the read of the last byte too
+--   isWait          the read-out is pending that leads to the wait for reselection
+use mathlib.Core.Path.{_≡_, refl, ap, _∙_}
+use mathlib.Core.Bool.{Bool, true, false}
+use mathlib.Core.List.{List, [], _∷_}
+use Prim.Native.Nat.{ℕ}
+use borrow.Author.Tests.{eqb-true}
+use Rattle.chip.specs.Choice.{pick, both, either}
+use Rattle.chip.specs.Interrupts.{isEnding, raise, outgoingDropped}
+use Rattle.chip.specs.Registers as R
+use Rattle.chip.specs.Calls.{Call, Outcome, pointer, auxiliary, register, block, time, answer, reselection, request, free, isSet, carried, step}
+use Rattle.chip.specs.declared.State.{State}
+use Rattle.chip.specs.declared.Reply.{Reply}
+use Rattle.chip.specs.declared.Pending.{Pending}
+use Rattle.chip.specs.declared.Pending.the-variants.{Nothing, Interrupt, Ending, ReadOut}
+use Rattle.unread.specs.Status.{isReset, isDisconnect, isDropped}
+use Rattle.unread.specs.Ending.{isEvent, isDataAccess}
+use Rattle.chip.proofs.Cases.{by-pick, by-case, by-test, either-first, either-rest}
+use Rattle.unread.proofs.Choosing.{clash}
+use Rattle.unread.proofs.Telling.{Standing, standing}
+use Rattle.unread.proofs.Host.{Pops, nothing-read, one-read, ending-read, wait-read, pops, going, written-stands, block-stands}
+use Rattle.unread.proofs.Ending.{ending-is-still, host-stays}
+
+abbrev isWait : Pending → Bool
+isWait Nothing = false
+isWait Interrupt = false
+isWait (Ending k) = false
+isWait ReadOut = true
+
+-- t is placed as s is, and no wait for reselection is to come
+record Placed (s t : State) : Type 0 where
+  connection : t .wire .connection ≡ s .wire .connection
+  calm : isWait (t .status .pending) ≡ false
+
+pops-placed : {s t : State} → isWait (s .status .pending) ≡ false → Pops s t → Placed s t
+unfolding raise outgoingDropped
+pops-placed n nothing-read = record { connection = refl; calm = n }
+pops-placed n (one-read d w) = record { connection = refl; calm = n }
+pops-placed n (ending-read d w e) = record { connection = refl; calm = refl }
+pops-placed n (wait-read d w e) = clash (ap isWait e) n
+
+then-placed : {s t u : State} → Placed s t → Placed t u → Placed s u
+then-placed x y = record { connection = y .connection ∙ x .connection; calm = y .calm }
+
+block-placed : (l : List ℕ) (s : State) → isWait (s .status .pending) ≡ false → Placed s (R.blockRead l s .state)
+unfolding R.blockRead
+block-placed [] s n = record { connection = refl; calm = n }
+block-placed (b ∷ l) s n =
+    going (λ (m : R.Moved). Placed s (m .state)) (R.dataRead s .answer) _ _
+    (λ v. let h = pops-placed n (pops s) in then-placed h (block-placed l (R.dataRead s .state) (h .calm)))
+    (record { connection = refl; calm = n })
+
+stands-placed : (s t : State) → standing t ≡ standing s → t .wire .connection ≡ s .wire .connection
+stands-placed s t e = ap (λ (x : Standing). x .connection) e
+
+abbrev Same : State → Reply → Type 0
+Same s r = r .state .wire .connection ≡ s .wire .connection
+
+-- at 19h
+at-data : (w : Bool) (b : ℕ) (s : State) → isWait (s .status .pending) ≡ false
+    → R.accessedAt 0x19 w b s .state .wire .connection ≡ s .wire .connection
+unfolding R.accessedAt R.writtenAt R.readAt pick
+at-data true b s n = by-pick (Same s) (R.isBlind true 0x19 s) refl (stands-placed s (R.dataWritten b s .state) (written-stands b s))
+at-data false b s n = by-pick (Same s) (R.isBlind false 0x19 s) refl (pops-placed n (pops s) .connection)
+
+-- an access to the Data register
+data-placed : (c : Call) (s : State) → isWait (s .status .pending) ≡ false → isDataAccess c s ≡ true
+    → step c s .state .wire .connection ≡ s .wire .connection
+unfolding step carried R.accessed R.stepped R.accessedAt both either
+data-placed (pointer m b) s n d = clash d refl
+data-placed auxiliary s n d = clash d refl
+data-placed (register m b) s n d =
+    by-pick (λ (o : Outcome). o .state .wire .connection ≡ s .wire .connection) _
+    (ap (λ (a : ℕ). R.accessedAt a (isSet m) b s .state .wire .connection) (eqb-true _ _ d) ∙ at-data (isSet m) b s n) refl
+data-placed (block m l) s n d =
+    by-pick (λ (o : Outcome). o .state .wire .connection ≡ s .wire .connection) _
+    (by-pick (λ (r : R.Moved). r .state .wire .connection ≡ s .wire .connection) _ (stands-placed s (R.blockWritten l s .state) (block-stands l s)) (block-placed l s n .connection))
+    refl
+data-placed (time k) s n d = clash d refl
+data-placed answer s n d = clash d refl
+data-placed (reselection lines) s n d = clash d refl
+data-placed (request p b q) s n d = clash d refl
+data-placed free s n d = clash d refl
+
+pub ending-placed : (c : Call) (s : State) (k : ℕ) → s .status .pending ≡ Ending k → isReset c s ≡ false → isDisconnect c s ≡ false
+    → step c s .state .wire .connection ≡ s .wire .connection
+ending-placed c s k p r d =
+    by-test (isEvent c) (λ v. ap (λ (t : State). t .wire .connection) (ending-is-still c s (ap isEnding p) v .same))
+    (λ v. by-test (isDataAccess c s) (data-placed c s (ap isWait p)) (λ n. host-stays s (ap isEnding p) c v r d n .connection))
