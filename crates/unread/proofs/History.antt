@@ -69,7 +69,7 @@ read-owes ReadOut e = clash refl e
 read-leads : {s : State} {o : Outcome} → ReadTold s o
     → Leads (s .status .code) (s .status .pending) (o .state .status .code) (o .state .status .pending) (readBy (o .answer))
 unfolding busy
-read-leads (blind a k q) = rw (a, k, q) (still refl)
+read-leads (blind b a k q) = rw (a, k, q) (still refl)
 read-leads {s} (read b a k q) =
     let e = read-owes (s .status .pending) (either-rest (isRunning (s .transfer .running)) _ b) in rw (a, k, q) (tell (e .0) (e .1))
 

@@ -2,6 +2,7 @@
 --   aborts-connected-row aborts-row refuses-row resumes-row   commands
 --   times-out-row answers-row reselects-row                   events
 --   byte-row slice-row                                        reads
+--   no-data no-block                                          reads where no byte waits
 --   Emptied block-empties last-stands   what the read of the last incoming byte leads to
 use mathlib.Core.Path.{_≡_, refl, sym, ap, _∙_}
 use mathlib.Core.Bool.{Bool, true, false}
@@ -203,7 +204,7 @@ data-read s d e =
     has-byte : s .transfer .direction ≡ In → dbr s ≡ true
     has-byte f = unfold dbr in rw (f, e)
 
-no-data : (s : State) → isEmpty (s .fifo) ≡ true → R.dataRead s ≡ noDataNow s
+pub no-data : (s : State) → isEmpty (s .fifo) ≡ true → R.dataRead s ≡ noDataNow s
 unfolding R.dataRead
 no-data s e = by-way (s .transfer .direction) refl
   where
@@ -215,7 +216,7 @@ no-data s e = by-way (s .transfer .direction) refl
     by-way In d = passed-over _ _ (no-byte d)
     by-way Out d = refl
 
-no-block : (l : List ℕ) (s : State) → isEmpty (s .fifo) ≡ true → R.blockRead l s .state ≡ s
+pub no-block : (l : List ℕ) (s : State) → isEmpty (s .fifo) ≡ true → R.blockRead l s .state ≡ s
 unfolding R.blockRead
 no-block [] s e = refl
 no-block (x ∷ l) s e = rw (no-data s e)

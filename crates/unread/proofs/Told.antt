@@ -132,7 +132,7 @@ reading a (request p b q) s e = clash e refl
 reading a free s e = clash e refl
 
 pub data ReadTold (s : State) : Outcome → Type 0 where
-  blind : {o : Outcome} → o .answer ≡ Blind → o .state .status .code ≡ s .status .code
+  blind : {o : Outcome} → busy s ≡ true → o .answer ≡ Blind → o .state .status .code ≡ s .status .code
       → o .state .status .pending ≡ s .status .pending → ReadTold s o
   read : {o : Outcome} → busy s ≡ false → o .answer ≡ Done (s .status .code) → o .state .status .code ≡ s .status .code
       → o .state .status .pending ≡ withoutInterrupt (s .status .pending) → ReadTold s o
@@ -147,12 +147,16 @@ seen-idle : (s : State) → R.isBlind false 0x17 s ≡ false → busy s ≡ fals
 unfolding R.isBlind both either
 seen-idle s b = not-first (busy s) true b refl
 
+seen-busy : (s : State) → R.isBlind false 0x17 s ≡ true → busy s ≡ true
+unfolding R.isBlind both either
+seen-busy s b = both-first (busy s) true b
+
 pub status-read : (c : Call) (s : State) → readsAt 0x17 c s ≡ true → ReadTold s (step c s)
 unfolding R.stepped R.accessedAt
 status-read c s e =
     let h : Reading 0x17 c s = reading 0x17 c s e in
     rw (h .gives)
-    (by-case (λ (r : Reply). ReadTold s (plain (R.stepped 0x17 r))) _ (λ b. blind refl refl refl) (λ b. readable (h .byte) s (seen-idle s b)))
+    (by-case (λ (r : Reply). ReadTold s (plain (R.stepped 0x17 r))) _ (λ b. blind (seen-busy s b) refl refl refl) (λ b. readable (h .byte) s (seen-idle s b)))
 
 -- a Disconnect that finds the controller connected, with no INT, is taken
 disconnect-gives : (b : ℕ) (s : State) → codeOf b ≡ 0x04 → interrupted s ≡ false → isConnected (s .wire .connection) ≡ true

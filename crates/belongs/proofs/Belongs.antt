@@ -1,0 +1,124 @@
+-- The promise of specs/Belongs.antt holds of the step.
+--   status-belongs   the status that a driver reads, with INT set, belongs to what last happened
+--   passed-on        a code that is owed after a call is caused by it, or was owed before and is not disturbed
+use mathlib.Core.Path.{_≡_, refl, sym, ap, _∙_}
+use mathlib.Core.Bool.{true, false, not}
+use mathlib.Core.List.{List, [], _∷_, _++_}
+use mathlib.Core.Logic.{_⊎_, inl, inr, ⊎-elim}
+use Prim.Native.Nat.{ℕ}
+use Rattle.chip.specs.Choice.{either}
+use Rattle.chip.specs.State.{fresh}
+use Rattle.chip.specs.Interrupts.{interrupted, isInterrupt, ends, isEnding, busy}
+use Rattle.chip.specs.Calls.{Call, Outcome, step}
+use Rattle.chip.specs.declared.State.{State}
+use Rattle.chip.specs.declared.Wire.{Wire}
+use Rattle.chip.specs.declared.Answer.the-variants.{Done}
+use Rattle.chip.specs.declared.Pending.{Pending}
+use Rattle.chip.specs.declared.Pending.the-variants.{Ending}
+use Rattle.chip.proofs.Cases.{by-test, either-last}
+use Rattle.reached.specs.Sound.{Sound}
+use Rattle.reached.proofs.Facts.{facts}
+use Rattle.unread.specs.Status.{isReset, isDisconnect, readsAt, raised}
+use Rattle.unread.specs.History.{run}
+use Rattle.unread.specs.Because.{Because}
+use Rattle.unread.specs.Codes as C
+use Rattle.unread.specs.Codes.{Since}
+use Rattle.unread.proofs.Choosing.{clash}
+use Rattle.unread.proofs.Told.{reset-told, disconnect-told, ReadTold, blind, read, status-read}
+use Rattle.unread.proofs.Unread.{unread-status-kept, raised-anew, raised-reset}
+use Rattle.unread.proofs.Because.{Found, quiet, reading-out, resetting, because-found, raised-because, ending-because}
+use Rattle.unread.proofs.Codes.{run-more, by-calls}
+use Rattle.unread.proofs.Ending.{ending-is-still}
+use Rattle.unread.proofs.Placed.{ending-placed}
+use Rattle.belongs.specs.StillBus.{owes}
+use Rattle.belongs.specs.Belongs.{Causes, at-once, to-come, Owes, unread, coming, Undisturbed, StatusBelongs}
+use Rattle.belongs.proofs.StillBus.{calm, unread-still, lived}
+use Rattle.belongs.proofs.Unmoved.{unmoved}
+
+module _ (k : ℕ) (c : Call) (s : State) where
+  abbrev Passed : Type 0
+  Passed = Causes c s k ⊎ Undisturbed step k c s
+
+  -- an ending with k, before the call and after it, or raised by it
+  in-ending : s .status .pending ≡ Ending k → isReset c s ≡ false → isDisconnect c s ≡ false → Undisturbed step k c s
+  in-ending p r d =
+      record {
+        owed = coming p;
+        still = ending-is-still c s (ap isEnding p);
+        placed = ending-placed c s k p r d;
+        bus = λ i. clash i (ap isInterrupt p);
+        command = λ i. clash i (ap isInterrupt p);
+      }
+
+  -- after a Reset INT is set, and after a Disconnect nothing is pending
+  no-reset : isInterrupt (step c s .state .status .pending) ≡ false → isReset c s ≡ false
+  no-reset n = by-test (isReset c s) (λ r. clash (ap isInterrupt (reset-told c s r .1)) n) (λ r. r)
+
+  no-disconnect : interrupted s ≡ false → owes (step c s .state) ≡ true → isDisconnect c s ≡ false
+  unfolding either
+  no-disconnect i o =
+      by-test (isDisconnect c s) (λ d. clash o (ap (λ (q : Pending). either (isInterrupt q) (isEnding q)) (disconnect-told c s d i .1)))
+      (λ d. d)
+
+  -- what the table says of a code that was not there before
+  found-on : Because c s k → isReset c s ≡ false → interrupted s ≡ false → interrupted (step c s .state) ≡ true → Found c s k → Passed
+  unfolding either
+  found-on h r i j (quiet q) = inl (at-once h (rw (ap isEnding q)))
+  found-on h r i j (reading-out o) = inr (in-ending (o .ending) r (no-disconnect i (rw j)))
+  found-on h r i j (resetting f) = clash f r
+
+  -- the code stands unread after the call
+  raised-on : Sound s → interrupted (step c s .state) ≡ true → step c s .state .status .code ≡ k → Passed
+  raised-on x j e =
+      by-test (isReset c s) (λ r. inl (at-once (because (raised-reset c s _ j r)) (rw r (either-last (not (ends s))))))
+      (λ r. by-test (interrupted s) (λ i. inr (kept r i))
+      (λ i. let h : Because c s k = because (raised-anew c s _ j i) in found-on h r i j (because-found h)))
+    where
+      because : raised c s (step c s .state) ≡ true → Because c s k
+      because h = rw e at (raised-because .sound c s h)
+
+      kept : isReset c s ≡ false → interrupted s ≡ true → Undisturbed step k c s
+      kept r i =
+          let u = unmoved s x i c r in
+          record {
+            owed = unread i (sym (unread-status-kept .code-kept c s i r) ∙ e);
+            still = unread-still s (calm x i) c;
+            placed = ap (λ (w : Wire). w .connection) (u .wire);
+            bus = λ i. u .wire;
+            command = λ i. u .transfer;
+          }
+
+  pub passed-on : Sound s → Owes k (step c s .state) → Passed
+  unfolding either
+  passed-on x (unread j e) = raised-on x j e
+  passed-on x (coming p) =
+      ⊎-elim (λ q. inr (in-ending q (no-reset (ap isInterrupt p)) (no-disconnect (ap isInterrupt q) (owing p)))) (λ b. inl (to-come b))
+      (ending-because .sound c s k p)
+    where
+      owing : step c s .state .status .pending ≡ Ending k → owes (step c s .state) ≡ true
+      owing p = ap (λ (q : Pending). either (isInterrupt q) (isEnding q)) p
+
+abbrev Belongs : List Call → Type 0
+Belongs l = (k : ℕ) → Owes k (run step l fresh) → Since step (λ c s. Causes c s k) (Undisturbed step k) l
+
+nothing-owed : Belongs []
+unfolding run
+nothing-owed k (unread i e) = clash i refl
+nothing-owed k (coming p) = clash (ap isEnding p) refl
+
+one-more : (l : List Call) (c : Call) → Belongs l → Belongs (l ++ (c ∷ []))
+one-more l c h k o =
+    ⊎-elim (C.now l c) (λ u. C.still l c (h k (u .owed)) u) (passed-on k c (run step l fresh) (lived l) (rw (run-more step l c fresh) at o))
+
+-- 17h is not Blind: with INT set no command runs
+read-gives : (s : State) (o : Outcome) → busy s ≡ false → ReadTold s o → o .answer ≡ Done (s .status .code)
+read-gives s o n (blind b a k q) = clash b n
+read-gives s o n (read b a k q) = a
+
+pub status-belongs : StatusBelongs step
+status-belongs =
+    record {
+      given = λ l c i r.
+          let s : State = run step l fresh in read-gives s (step c s) (facts (lived l) .int-not-busy i) (status-read c s r);
+      belongs = λ l i. by-calls Belongs nothing-owed one-more l (run step l fresh .status .code) (unread i refl);
+    }

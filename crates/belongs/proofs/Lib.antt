@@ -1,0 +1,3 @@
+pub mod StillBus
+pub mod Unmoved
+pub mod Belongs

@@ -1,0 +1,50 @@
+-- The promise. The status that a driver reads, with INT set, belongs to what last happened: over every list of calls from a fresh controller,
+-- the read gives one code, one call is the cause of that code, and between that call and the read no bus event changed the controller.
+--   StatusBelongs f     the promise, of a step function
+--   Causes c s k        the call c, made in s, is the cause of the code k, by the table `Because` (room unread): it raises k, or it begins an ending
+--                       that has k to come
+--   Owes k s            the code k is owed: it is to come at the end of an ending, or it stands at 17h and nobody has read it
+--   Undisturbed f k c s   the call c, made in s, leaves the code k owed and everything that it speaks of as it was
+use mathlib.Core.Path.{_≡_}
+use mathlib.Core.Bool.{true, not}
+use mathlib.Core.List.{List}
+use Prim.Native.Nat.{ℕ}
+use Rattle.chip.specs.Choice.{either}
+use Rattle.chip.specs.State.{fresh}
+use Rattle.chip.specs.Interrupts.{interrupted, ends}
+use Rattle.chip.specs.Calls.{Call, Outcome}
+use Rattle.chip.specs.declared.State.{State}
+use Rattle.chip.specs.declared.Answer.the-variants.{Done}
+use Rattle.chip.specs.declared.Pending.the-variants.{Ending}
+use Rattle.unread.specs.Status.{isReset, readsAt}
+use Rattle.unread.specs.History.{run}
+use Rattle.unread.specs.Because.{Because, Begins}
+use Rattle.unread.specs.Codes.{Since}
+use Rattle.unread.specs.Ending.{isEvent, Untouched}
+
+-- the read of an ending's last byte raises a code too, but it is not its cause
+pub data Causes (c : Call) (s : State) (k : ℕ) : Type 0 where
+  at-once : Because c s k → either (not (ends s)) (isReset c s) ≡ true → Causes c s k
+  to-come : Begins c s k → Causes c s k
+
+pub data Owes (k : ℕ) (s : State) : Type 0 where
+  unread : interrupted s ≡ true → s .status .code ≡ k → Owes k s
+  coming : s .status .pending ≡ Ending k → Owes k s
+
+pub record Undisturbed (f : Call → State → Outcome) (k : ℕ) (c : Call) (s : State) : Type 0 where
+  pub owed : Owes k s
+  -- no bus event changes anything, nor is it taken
+  pub still : isEvent c ≡ true → Untouched f c s
+  -- nothing that the host does changes who is connected ..
+  pub placed : f c s .state .wire .connection ≡ s .wire .connection
+  -- .. and, once the code is raised, nothing on the bus and no command
+  pub bus : interrupted s ≡ true → f c s .state .wire ≡ s .wire
+  pub command : interrupted s ≡ true → f c s .state .transfer ≡ s .transfer
+
+pub record StatusBelongs (f : Call → State → Outcome) : Type 0 where
+  -- a read of 17h with INT set is answered with the code that stands there
+  pub given : (l : List Call) (c : Call) → interrupted (run f l fresh) ≡ true → readsAt 0x17 c (run f l fresh) ≡ true
+      → f c (run f l fresh) .answer ≡ Done (run f l fresh .status .code)
+  -- one call is its cause, and since then nothing disturbed it
+  pub belongs : (l : List Call) → interrupted (run f l fresh) ≡ true
+      → Since f (λ c s. Causes c s (run f l fresh .status .code)) (Undisturbed f (run f l fresh .status .code)) l

@@ -1,0 +1,4 @@
+pub mod StillBus
+pub mod Belongs
+pub mod TimedOut
+pub mod Wrong

@@ -1,0 +1,46 @@
+-- Wrong steps, each the step with one mistake. proofs/Refuted.antt refutes the promise of each.
+--   late       with 42h unread and Disconnected an Answer is Done and connects: the fault that this model is built against
+--   intrudes   with a status unread a Reselection is Done and connects, and raises nothing
+--   swallows   with a status unread a Free is Done, and nothing happens: the board takes the bus for free
+--   ticks      with a status unread time adds up
+--   eager      with a status unread a Select is taken
+--   drops      of room unread: Time forgets an ending with its code
+use mathlib.Core.Bool.{Bool}
+use Prim.Native.Nat.{ℕ, _+_}
+use lib.Dec.{eqb}
+use Rattle.chip.specs.Choice.{both}
+use Rattle.chip.specs.State.{setConnection, setElapsed}
+use Rattle.chip.specs.Interrupts.{interrupted}
+use Rattle.chip.specs.Commands.{isDisconnected, selecting}
+use Rattle.chip.specs.Calls.{Call, Outcome, kind}
+use Rattle.chip.specs.declared.State.{State}
+use Rattle.chip.specs.declared.Connection.the-variants.{Connected}
+use Rattle.chip.specs.declared.Running.the-variants.{SelectWithAtn}
+use Rattle.unread.specs.Status.{isSelection}
+use Rattle.unread.specs.Wrong.{instead}
+
+-- a call of kind n that finds a status unread
+abbrev overUnread : ℕ → Call → State → Bool
+overUnread n c s = both (eqb (kind c) n) (interrupted s)
+
+unfoldable pub late : Call → State → Outcome
+unfolding instead
+late =
+    instead (λ c s. both (overUnread 5 c s) (both (eqb (s .status .code) 0x42) (isDisconnected (s .wire .connection))))
+    (setConnection Connected)
+
+unfoldable pub intrudes : Call → State → Outcome
+unfolding instead
+intrudes = instead (overUnread 6) (setConnection Connected)
+
+unfoldable pub swallows : Call → State → Outcome
+unfolding instead
+swallows = instead (overUnread 8) (λ s. s)
+
+unfoldable pub ticks : Call → State → Outcome
+unfolding instead
+ticks = instead (overUnread 4) (λ s. setElapsed (s .wire .elapsed + 1) s)
+
+unfoldable pub eager : Call → State → Outcome
+unfolding instead
+eager = instead (λ c s. both (isSelection c s) (interrupted s)) (selecting SelectWithAtn)
