@@ -1,5 +1,6 @@
 -- The promise of specs/Belongs.antt holds of the step.
 --   status-belongs   the status that a driver reads, with INT set, belongs to what last happened
+--   Belongs owed-belongs   .. of every code that is owed, one that is still to come too
 --   passed-on        a code that is owed after a call is caused by it, or was owed before and is not disturbed
 use mathlib.Core.Path.{_≡_, refl, sym, ap, _∙_}
 use mathlib.Core.Bool.{true, false, not}
@@ -24,6 +25,7 @@ use Rattle.unread.specs.Because.{Because}
 use Rattle.unread.specs.Codes as C
 use Rattle.unread.specs.Codes.{Since}
 use Rattle.unread.proofs.Choosing.{clash}
+use Rattle.unread.proofs.Telling.{cleared-int}
 use Rattle.unread.proofs.Told.{reset-told, disconnect-told, ReadTold, blind, read, status-read}
 use Rattle.unread.proofs.Unread.{unread-status-kept, raised-anew, raised-reset}
 use Rattle.unread.proofs.Because.{Found, quiet, reading-out, resetting, because-found, raised-because, ending-because}
@@ -98,7 +100,7 @@ module _ (k : ℕ) (c : Call) (s : State) where
       owing : step c s .state .status .pending ≡ Ending k → owes (step c s .state) ≡ true
       owing p = ap (λ (q : Pending). either (isInterrupt q) (isEnding q)) p
 
-abbrev Belongs : List Call → Type 0
+abbrev pub Belongs : List Call → Type 0
 Belongs l = (k : ℕ) → Owes k (run step l fresh) → Since step (λ c s. Causes c s k) (Undisturbed step k) l
 
 nothing-owed : Belongs []
@@ -115,10 +117,26 @@ read-gives : (s : State) (o : Outcome) → busy s ≡ false → ReadTold s o →
 read-gives s o n (blind b a k q) = clash b n
 read-gives s o n (read b a k q) = a
 
+-- .. and it clears INT
+read-clears : (s : State) (o : Outcome) → busy s ≡ false → ReadTold s o → isInterrupt (o .state .status .pending) ≡ false
+read-clears s o n (blind b a k q) = clash b n
+read-clears s o n (read b a k q) = ap isInterrupt q ∙ cleared-int (s .status .pending)
+
+pub owed-belongs : (l : List Call) → Belongs l
+owed-belongs = by-calls Belongs nothing-owed one-more
+
 pub status-belongs : StatusBelongs step
 status-belongs =
     record {
       given = λ l c i r.
-          let s : State = run step l fresh in read-gives s (step c s) (facts (lived l) .int-not-busy i) (status-read c s r);
-      belongs = λ l i. by-calls Belongs nothing-owed one-more l (run step l fresh .status .code) (unread i refl);
+          let s : State = run step l fresh in
+          let n : busy s ≡ false = facts (lived l) .int-not-busy i in
+          let t : ReadTold s (step c s) = status-read c s r in
+          let u = unmoved s (lived l) i c (no-reset 0 c s (read-clears s (step c s) n t)) in
+          record {
+            code = read-gives s (step c s) n t;
+            bus = u .wire;
+            command = u .transfer;
+          };
+      belongs = λ l i. owed-belongs l (run step l fresh .status .code) (unread i refl);
     }

@@ -1,3 +1,5 @@
 pub mod StillBus
 pub mod Unmoved
 pub mod Belongs
+pub mod TimedOut
+pub mod Refuted

@@ -116,7 +116,7 @@ module _ (s : State) (x : Sound s) (i : interrupted s ≡ true) where
   unfolding R.accessed R.stepped R.accessedAt
   access-rests m b g r =
       let h : Rests (R.accessedAt (s .status .pointer) (isSet m) b s) =
-          by-pick Rests _ (rest s) (by-case Rests _ (λ w. written-rests m b g w r) (λ w. read-rests (s .status .pointer))) in
+      by-pick Rests _ (rest s) (by-case Rests _ (λ w. written-rests m b g w r) (λ w. read-rests (s .status .pointer))) in
       record { wire = h .wire; transfer = h .transfer }
 
   block-rests : (m : ℕ) (l : List ℕ) → Unmoved s (carried (block m l) s .state)

@@ -4,7 +4,8 @@
 --   Causes c s k        the call c, made in s, is the cause of the code k, by the table `Because` (room unread): it raises k, or it begins an ending
 --                       that has k to come
 --   Owes k s            the code k is owed: it is to come at the end of an ending, or it stands at 17h and nobody has read it
---   Undisturbed f k c s   the call c, made in s, leaves the code k owed and everything that it speaks of as it was
+--   Undisturbed f k c s   the call c, made in s, finds the code k owed and leaves everything that it speaks of as it was
+--   Gives f k c s       the call c, made in s, is answered with the code k, and leaves bus and command as they were
 use mathlib.Core.Path.{_≡_}
 use mathlib.Core.Bool.{true, not}
 use mathlib.Core.List.{List}
@@ -41,10 +42,15 @@ pub record Undisturbed (f : Call → State → Outcome) (k : ℕ) (c : Call) (s 
   pub bus : interrupted s ≡ true → f c s .state .wire ≡ s .wire
   pub command : interrupted s ≡ true → f c s .state .transfer ≡ s .transfer
 
+pub record Gives (f : Call → State → Outcome) (k : ℕ) (c : Call) (s : State) : Type 0 where
+  pub code : f c s .answer ≡ Done k
+  pub bus : f c s .state .wire ≡ s .wire
+  pub command : f c s .state .transfer ≡ s .transfer
+
 pub record StatusBelongs (f : Call → State → Outcome) : Type 0 where
-  -- a read of 17h with INT set is answered with the code that stands there
+  -- a read of 17h with INT set gives the code that stands there
   pub given : (l : List Call) (c : Call) → interrupted (run f l fresh) ≡ true → readsAt 0x17 c (run f l fresh) ≡ true
-      → f c (run f l fresh) .answer ≡ Done (run f l fresh .status .code)
+      → Gives f (run f l fresh .status .code) c (run f l fresh)
   -- one call is its cause, and since then nothing disturbed it
   pub belongs : (l : List Call) → interrupted (run f l fresh) ≡ true
       → Since f (λ c s. Causes c s (run f l fresh .status .code)) (Undisturbed f (run f l fresh .status .code)) l

@@ -4,19 +4,20 @@
 --   swallows   with a status unread a Free is Done, and nothing happens: the board takes the bus for free
 --   ticks      with a status unread time adds up
 --   eager      with a status unread a Select is taken
---   drops      of room unread: Time forgets an ending with its code
+--   hangsUp    the read of a status gives it and disconnects
+-- `drops` of room unread, a Time that forgets an ending with its code, is refuted here too.
 use mathlib.Core.Bool.{Bool}
 use Prim.Native.Nat.{ℕ, _+_}
 use lib.Dec.{eqb}
-use Rattle.chip.specs.Choice.{both}
+use Rattle.chip.specs.Choice.{pick, both}
 use Rattle.chip.specs.State.{setConnection, setElapsed}
 use Rattle.chip.specs.Interrupts.{interrupted}
 use Rattle.chip.specs.Commands.{isDisconnected, selecting}
-use Rattle.chip.specs.Calls.{Call, Outcome, kind}
+use Rattle.chip.specs.Calls.{Call, Outcome, kind, step}
 use Rattle.chip.specs.declared.State.{State}
-use Rattle.chip.specs.declared.Connection.the-variants.{Connected}
+use Rattle.chip.specs.declared.Connection.the-variants.{Disconnected, Connected}
 use Rattle.chip.specs.declared.Running.the-variants.{SelectWithAtn}
-use Rattle.unread.specs.Status.{isSelection}
+use Rattle.unread.specs.Status.{isSelection, readsAt}
 use Rattle.unread.specs.Wrong.{instead}
 
 -- a call of kind n that finds a status unread
@@ -44,3 +45,11 @@ ticks = instead (overUnread 4) (λ s. setElapsed (s .wire .elapsed + 1) s)
 unfoldable pub eager : Call → State → Outcome
 unfolding instead
 eager = instead (λ c s. both (isSelection c s) (interrupted s)) (selecting SelectWithAtn)
+
+unfoldable pub hangsUp : Call → State → Outcome
+hangsUp c s =
+    record {
+      answer = step c s .answer;
+      state = pick (both (readsAt 0x17 c s) (interrupted s)) (setConnection Disconnected (step c s .state)) (step c s .state);
+      lent = step c s .lent;
+    }

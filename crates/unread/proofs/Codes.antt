@@ -3,7 +3,9 @@
 --   selections-begun   a selection was begun by a Select command, and no Answer came since
 --   codes-only-by   who raises which code
 --   time-ends-nothing   no ending has the code 42h
---   since-began since-last lastOf   what follows from the call that began it, or from the last one, follows
+--   since-began since-last   what follows from the call that began it, or from the last one, follows
+--   since-map       .. and goes over into what else holds of these calls
+--   lastOf before   the last call of a list, and those before it
 --   by-calls        what holds with no call made, and with one more, holds over every list of calls
 --   run-more        .. the state with one more
 use mathlib.Core.Path.{_≡_, refl, sym, ap, _∙_}
@@ -230,25 +232,35 @@ pub time-ends-nothing : {c : Call} {s : State} → Begins c s 0x42 → ⊥
 unfolding reasonOf EndsBy pick both either
 time-ends-nothing h = begins-by h
 
-since-map : {f : Call → State → Outcome} {A B N : Call → State → Type 0} {l : List Call} → ((c : Call) (s : State) → A c s → B c s)
-    → Since f A N l → Since f B N l
-since-map g (C.now l c a) = C.now l c (g c _ a)
-since-map g (C.still l c h n) = C.still l c (since-map g h) n
+pub since-map : {f : Call → State → Outcome} {A B M N : Call → State → Type 0} {l : List Call} → ((c : Call) (s : State) → A c s → B c s)
+    → ((c : Call) (s : State) → M c s → N c s) → Since f A M l → Since f B N l
+since-map g h (C.now l c a) = C.now l c (g c _ a)
+since-map g h (C.still l c x n) = C.still l c (since-map g h x) (h c _ n)
 
--- the last call of a list, d where there is none
+-- the last call of a list, d where there is none, and the calls before it
 abbrev pub lastOf : Call → List Call → Call
 lastOf d [] = d
 lastOf d (c ∷ l) = lastOf c l
+
+abbrev pub before : List Call → List Call
+before [] = []
+before (c ∷ []) = []
+before (c ∷ d ∷ l) = c ∷ before (d ∷ l)
 
 last-one : (d c : Call) (l : List Call) → lastOf d (l ++ (c ∷ [])) ≡ c
 last-one d c [] = refl
 last-one d c (e ∷ l) = last-one e c l
 
+before-one : (c : Call) (l : List Call) → before (l ++ (c ∷ [])) ≡ l
+before-one c [] = refl
+before-one c (d ∷ []) = refl
+before-one c (d ∷ e ∷ l) = ap (λ (m : List Call). d ∷ m) (before-one c (e ∷ l))
+
 -- what follows from the last call, whether it began or went on, follows
 pub since-last : {f : Call → State → Outcome} {B N : Call → State → Type 0} {l : List Call} {X : Type 0} (d : Call)
-    → ((s : State) → B (lastOf d l) s → X) → ((s : State) → N (lastOf d l) s → X) → Since f B N l → X
-since-last {f} d x y (C.now l c b) = x (run f l fresh) (rw (last-one d c l) b)
-since-last {f} d x y (C.still l c h n) = y (run f l fresh) (rw (last-one d c l) n)
+    → (B (lastOf d l) (run f (before l) fresh) → X) → (N (lastOf d l) (run f (before l) fresh) → X) → Since f B N l → X
+since-last d x y (C.now l c b) = x (rw (last-one d c l, before-one c l) b)
+since-last d x y (C.still l c h n) = y (rw (last-one d c l, before-one c l) n)
 
 pub since-began : {f : Call → State → Outcome} {B N : Call → State → Type 0} {l : List Call} {X : Type 0}
     → ((c : Call) (s : State) → B c s → X) → Since f B N l → X
@@ -257,7 +269,7 @@ since-began g (C.still l c h n) = since-began g h
 
 read-out-since : {k : ℕ} (l : List Call) (c : Call) → ReadsOut c (run step l fresh) k
     → Since step (λ d s. EndsBy (reasonOf k) d) (λ d s. s .status .pending ≡ Ending k) l
-read-out-since {k} l c h = since-map (λ d s b. begins-by b) (endings-begun .begun l k (h .ending))
+read-out-since {k} l c h = since-map (λ d s b. begins-by b) (λ d s n. n) (endings-begun .begun l k (h .ending))
 
 module _ (l : List Call) (c : Call) {k : ℕ} (h : Raises step l c k) where
   why : ReadsOut c (run step l fresh) k ⊎ Explains (reasonOf k) c (run step l fresh)

@@ -1,4 +1,5 @@
 -- Each law refuses a wrong step: `Law wrong → ⊥`. What is wrong is said in specs/Wrong.antt.
+--   callsEnding   calls from a fresh controller that lead to an ending
 --   hasty-refused peeking-refused soft-refused           by UnreadStatusKept
 --   mumbling-refused                                     by CodeMovesOnlyByRaising
 --   hasty-loses peeking-hides mumbling-lies forgetful-stale   by NoStatusLost
@@ -128,7 +129,7 @@ callsAnswered = pointer 1 0x02 ∷ register 1 0x01 ∷ pointer 1 0x18 ∷ regist
 
 answered-since : Unanswered deaf callsAnswered → ⊥
 unfolding isSelection isCommand either
-answered-since = since-last auxiliary (λ s b. clash (b .0) refl) (λ s n. clash refl (n .1))
+answered-since = since-last auxiliary (λ b. clash (b .0) refl) (λ n. clash refl (n .1))
 
 pub deaf-refused : SelectionsBegun deaf → ⊥
 unfolding everything deaf W.changed H.run
@@ -142,7 +143,7 @@ deaf-times-out h = answered-since (h .unanswered callsAnswered (time 1) (record 
 
 -- from a fresh controller: a Select-And-Transfer without ATN, the Target takes the command, sends one byte, and then asks for a phase that
 -- is not expected: an ending with 4Ch, and one byte to read
-abbrev callsEnding : List Call
+abbrev pub callsEnding : List Call
 callsEnding =
     pointer 1 0x14
     ∷ register 1 13

@@ -1,0 +1,112 @@
+-- The promise refuses the wrong steps of specs/Wrong.antt: `Law wrong → ⊥`, each at calls from a fresh controller.
+--   late-moves intrudes-moves swallows-taken ticks-moves drops-moves   by StillBus
+--   late-lies intrudes-lies swallows-lies eager-lies hangs-up-lies     by StatusBelongs
+--   late-answered                                                      by TimedOutIsTrue
+--   late-wound   what a driver then reads of the disk that has answered: connected, and 42h
+use mathlib.Core.Path.{_≡_, refl, ap}
+use mathlib.Core.Bool.{true, false}
+use mathlib.Core.List.{List, [], _∷_, _++_}
+use Prim.Native.Nat.{ℕ}
+use native.Mathlib.Omega.{arith}
+use Rattle.chip.specs.Choice.{either}
+use Rattle.chip.specs.State.{fresh}
+use Rattle.chip.specs.Lines.{bit}
+use Rattle.chip.specs.Answers.{number, value}
+use Rattle.chip.specs.Interrupts.{isEnding}
+use Rattle.chip.specs.Commands.{isConnected, isDisconnected}
+use Rattle.chip.specs.Calls.{Call, pointer, auxiliary, register, time, answer, reselection, free, after, step}
+use Rattle.chip.specs.declared.State.{State}
+use Rattle.chip.specs.declared.Wire.{Wire}
+use Rattle.chip.proofs.Computing.{everything}
+use Rattle.unread.specs.Status.{isCommand, isReset, isSelection, readsAt, raised}
+use Rattle.unread.specs.History.{run}
+use Rattle.unread.specs.Wrong.{instead, drops}
+use Rattle.unread.proofs.Choosing.{clash}
+use Rattle.unread.proofs.Because.{raised-because, ending-because}
+use Rattle.unread.proofs.Codes.{since-last}
+use Rattle.unread.proofs.Refuted.{callsEnding}
+use Rattle.belongs.specs.StillBus.{StillBus}
+use Rattle.belongs.specs.Belongs.{Causes, at-once, to-come, Undisturbed, StatusBelongs}
+use Rattle.belongs.specs.TimedOut.{TimedOutIsTrue}
+use Rattle.belongs.specs.Wrong.{late, intrudes, swallows, ticks, eager, hangsUp}
+
+-- a timeout of 1, a Select, and one unit passes: 42h, unread
+abbrev callsTimedOut : List Call
+callsTimedOut = pointer 1 0x02 ∷ register 1 0x01 ∷ pointer 1 0x18 ∷ register 1 0x06 ∷ time 1 ∷ []
+
+-- a Select, and the Target answers: 11h, unread
+abbrev callsSelected : List Call
+callsSelected = pointer 1 0x18 ∷ register 1 0x07 ∷ answer ∷ []
+
+pub late-wound : _≡_ {A = List ℕ}
+    (bit (isConnected (run late (callsTimedOut ++ (answer ∷ [])) fresh .wire .connection))
+    ∷ value (late (register 0 0) (run late (callsTimedOut ++ (answer ∷ pointer 1 0x17 ∷ [])) fresh) .answer)
+    ∷ [])
+    (1 ∷ 0x42 ∷ [])
+unfolding everything run late instead
+late-wound = refl
+
+pub late-moves : StillBus late → ⊥
+unfolding everything run late instead
+late-moves h = clash refl (ap (λ (t : State). isConnected (t .wire .connection)) (h callsTimedOut answer refl refl .same))
+
+pub intrudes-moves : StillBus intrudes → ⊥
+unfolding everything run intrudes instead
+intrudes-moves h = clash refl (ap (λ (t : State). isConnected (t .wire .connection)) (h callsTimedOut (reselection 0) refl refl .same))
+
+pub swallows-taken : StillBus swallows → ⊥
+unfolding everything run swallows instead
+swallows-taken h = clash (h callsSelected free refl refl .not-taken) refl
+
+pub ticks-moves : StillBus ticks → ⊥
+unfolding everything run ticks instead
+ticks-moves h =
+    let z : _≡_ {A = ℕ} 1 0 = ap (λ (t : State). t .wire .elapsed) (h callsTimedOut (time 1) refl refl .same) in omega arith
+
+pub drops-moves : StillBus drops → ⊥
+unfolding everything run drops instead
+drops-moves h = clash (ap (λ (t : State). isEnding (t .status .pending)) (h callsEnding (time 1) refl refl .same)) refl
+
+-- a call that raises no code, and begins no ending, is the cause of none
+no-cause : (c : Call) (s : State) {k : ℕ} → raised c s (step c s .state) ≡ false → isEnding (step c s .state .status .pending) ≡ false
+    → Causes c s k → ⊥
+no-cause c s {k} n e (at-once b o) = clash (raised-because .complete c s k b) n
+no-cause c s {k} n e (to-come b) = clash (ap isEnding (ending-because .complete c s k b)) e
+
+-- the last call neither is the cause of the code nor leaves it undisturbed
+
+pub late-lies : StatusBelongs late → ⊥
+unfolding everything run late instead raised isReset isCommand
+late-lies h =
+    since-last auxiliary (no-cause answer (run late callsTimedOut fresh) refl refl)
+    (λ u. clash refl (ap (λ (t : State). isConnected (t .wire .connection)) (u .still refl .same)))
+    (h .belongs (callsTimedOut ++ (answer ∷ [])) refl)
+
+pub intrudes-lies : StatusBelongs intrudes → ⊥
+unfolding everything run intrudes instead raised isReset isCommand
+intrudes-lies h =
+    since-last auxiliary (no-cause (reselection 0) (run intrudes callsTimedOut fresh) refl refl)
+    (λ u. clash refl (ap (λ (t : State). isConnected (t .wire .connection)) (u .still refl .same)))
+    (h .belongs (callsTimedOut ++ (reselection 0 ∷ [])) refl)
+
+pub swallows-lies : StatusBelongs swallows → ⊥
+unfolding everything run swallows instead raised isReset isCommand
+swallows-lies h =
+    since-last auxiliary (no-cause free (run swallows callsSelected fresh) refl refl) (λ u. clash (u .still refl .not-taken) refl)
+    (h .belongs (callsSelected ++ (free ∷ [])) refl)
+
+pub eager-lies : StatusBelongs eager → ⊥
+unfolding everything run eager instead raised isReset isCommand isSelection
+eager-lies h =
+    since-last auxiliary (no-cause (register 1 0x06) (run eager callsTimedOut fresh) refl refl)
+    (λ u. clash (ap isDisconnected (u .placed)) refl)
+    (h .belongs (callsTimedOut ++ (register 1 0x06 ∷ [])) refl)
+
+pub hangs-up-lies : StatusBelongs hangsUp → ⊥
+unfolding everything run hangsUp readsAt
+hangs-up-lies h =
+    clash refl (ap (λ (w : Wire). isDisconnected (w .connection)) (h .given (callsSelected ++ (pointer 1 0x17 ∷ [])) (register 0 0) refl refl .bus))
+
+pub late-answered : TimedOutIsTrue late → ⊥
+unfolding everything run late instead
+late-answered h = clash (ap isDisconnected (h .apart (callsTimedOut ++ (answer ∷ [])) refl refl)) refl
