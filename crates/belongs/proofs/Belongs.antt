@@ -19,7 +19,7 @@ use Rattle.chip.specs.declared.Pending.the-variants.{Ending}
 use Rattle.chip.proofs.Cases.{by-test, either-last}
 use Rattle.reached.specs.Sound.{Sound}
 use Rattle.reached.proofs.Facts.{facts}
-use Rattle.unread.specs.Status.{isReset, isDisconnect, readsAt, raised}
+use Rattle.unread.specs.Status.{isReset, isDisconnect, raised}
 use Rattle.unread.specs.History.{run}
 use Rattle.unread.specs.Because.{Because}
 use Rattle.unread.specs.Codes as C
@@ -32,7 +32,7 @@ use Rattle.unread.proofs.Because.{Found, quiet, reading-out, resetting, because
 use Rattle.unread.proofs.Codes.{run-more, by-calls}
 use Rattle.unread.proofs.Ending.{ending-is-still}
 use Rattle.unread.proofs.Placed.{ending-placed}
-use Rattle.belongs.specs.StillBus.{owes}
+use Rattle.belongs.specs.StillBus.{isPending}
 use Rattle.belongs.specs.Belongs.{Causes, at-once, to-come, Owes, unread, coming, Undisturbed, StatusBelongs}
 use Rattle.belongs.proofs.StillBus.{calm, unread-still, lived}
 use Rattle.belongs.proofs.Unmoved.{unmoved}
@@ -56,7 +56,7 @@ module _ (k : ℕ) (c : Call) (s : State) where
   no-reset : isInterrupt (step c s .state .status .pending) ≡ false → isReset c s ≡ false
   no-reset n = by-test (isReset c s) (λ r. clash (ap isInterrupt (reset-told c s r .1)) n) (λ r. r)
 
-  no-disconnect : interrupted s ≡ false → owes (step c s .state) ≡ true → isDisconnect c s ≡ false
+  no-disconnect : interrupted s ≡ false → isPending (step c s .state) ≡ true → isDisconnect c s ≡ false
   unfolding either
   no-disconnect i o =
       by-test (isDisconnect c s) (λ d. clash o (ap (λ (q : Pending). either (isInterrupt q) (isEnding q)) (disconnect-told c s d i .1)))
@@ -97,7 +97,7 @@ module _ (k : ℕ) (c : Call) (s : State) where
       ⊎-elim (λ q. inr (in-ending q (no-reset (ap isInterrupt p)) (no-disconnect (ap isInterrupt q) (owing p)))) (λ b. inl (to-come b))
       (ending-because .sound c s k p)
     where
-      owing : step c s .state .status .pending ≡ Ending k → owes (step c s .state) ≡ true
+      owing : step c s .state .status .pending ≡ Ending k → isPending (step c s .state) ≡ true
       owing p = ap (λ (q : Pending). either (isInterrupt q) (isEnding q)) p
 
 abbrev pub Belongs : List Call → Type 0

@@ -4,17 +4,16 @@
 --   late-answered                                                      by TimedOutIsTrue
 --   late-wound   what a driver then reads of the disk that has answered: connected, and 42h
 use mathlib.Core.Path.{_≡_, refl, ap}
-use mathlib.Core.Bool.{true, false}
+use mathlib.Core.Bool.{false}
 use mathlib.Core.List.{List, [], _∷_, _++_}
 use Prim.Native.Nat.{ℕ}
 use native.Mathlib.Omega.{arith}
-use Rattle.chip.specs.Choice.{either}
 use Rattle.chip.specs.State.{fresh}
 use Rattle.chip.specs.Lines.{bit}
-use Rattle.chip.specs.Answers.{number, value}
+use Rattle.chip.specs.Answers.{value}
 use Rattle.chip.specs.Interrupts.{isEnding}
 use Rattle.chip.specs.Commands.{isConnected, isDisconnected}
-use Rattle.chip.specs.Calls.{Call, pointer, auxiliary, register, time, answer, reselection, free, after, step}
+use Rattle.chip.specs.Calls.{Call, pointer, auxiliary, register, time, answer, reselection, free, step}
 use Rattle.chip.specs.declared.State.{State}
 use Rattle.chip.specs.declared.Wire.{Wire}
 use Rattle.chip.proofs.Computing.{everything}
@@ -26,7 +25,7 @@ use Rattle.unread.proofs.Because.{raised-because, ending-because}
 use Rattle.unread.proofs.Codes.{since-last}
 use Rattle.unread.proofs.Refuted.{callsEnding}
 use Rattle.belongs.specs.StillBus.{StillBus}
-use Rattle.belongs.specs.Belongs.{Causes, at-once, to-come, Undisturbed, StatusBelongs}
+use Rattle.belongs.specs.Belongs.{Causes, at-once, to-come, StatusBelongs}
 use Rattle.belongs.specs.TimedOut.{TimedOutIsTrue}
 use Rattle.belongs.specs.Wrong.{late, intrudes, swallows, ticks, eager, hangsUp}
 

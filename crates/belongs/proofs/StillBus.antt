@@ -1,19 +1,18 @@
 -- The law of specs/StillBus.antt holds of the step.
---   still-bus    while the controller owes the host something, no bus event changes it
+--   still-bus    while something is pending for the host, no bus event changes the controller
 --   Calm calm    of a reached state with INT: no command runs, and no selection and no wait goes on
 use mathlib.Core.Path.{_≡_, refl, ap, _∙_}
-use mathlib.Core.Bool.{Bool, true, false}
+use mathlib.Core.Bool.{Bool, true}
 use mathlib.Core.List.{List}
 use mathlib.Core.Logic.{_⊎_, inl, inr, ⊎-elim}
 use Prim.Native.Nat.{ℕ}
-use Rattle.chip.specs.Choice.{pick, either}
-use Rattle.chip.specs.Phases.{phaseOf, isNoted}
+use Rattle.chip.specs.Phases.{phaseOf}
 use Rattle.chip.specs.Lines.{qualifies}
 use Rattle.chip.specs.Answers.{done, held}
 use Rattle.chip.specs.State.{fresh}
-use Rattle.chip.specs.Interrupts.{interrupted, isInterrupt, ends, isEnding, unlessInterrupt}
+use Rattle.chip.specs.Interrupts.{interrupted, isInterrupt, isEnding, unlessInterrupt}
 use Rattle.chip.specs.Events as E
-use Rattle.chip.specs.Calls.{Call, pointer, auxiliary, register, block, time, answer, reselection, request, free, isGood, isSet, plain, carried, step, after}
+use Rattle.chip.specs.Calls.{Call, pointer, auxiliary, register, block, time, answer, reselection, request, free, isGood, isSet, plain, carried, step}
 use Rattle.chip.specs.declared.State.{State}
 use Rattle.chip.specs.declared.Reply.{Reply}
 use Rattle.chip.specs.declared.Phase.{Phase}
@@ -21,7 +20,7 @@ use Rattle.chip.specs.declared.Fifo.{Fifo}
 use Rattle.chip.specs.declared.Noted.{Noted}
 use Rattle.chip.specs.declared.Direction.{Direction}
 use Rattle.chip.specs.declared.Pending.{Pending}
-use Rattle.chip.specs.declared.Pending.the-variants.{Nothing, Interrupt, Ending, ReadOut}
+use Rattle.chip.specs.declared.Pending.the-variants.{Interrupt}
 use Rattle.chip.specs.declared.Running.{Running}
 use Rattle.chip.specs.declared.Running.the-variants.{Idle}
 use Rattle.chip.specs.declared.Connection.{Connection}
@@ -36,7 +35,7 @@ use Rattle.unread.proofs.Told.{good-step}
 use Rattle.unread.proofs.History.{ran}
 use Rattle.unread.proofs.Unread.{int-pending}
 use Rattle.unread.proofs.Ending.{Refuses, refuses, refuses-bad, passes, ending-is-still}
-use Rattle.belongs.specs.StillBus.{owes, StillBus}
+use Rattle.belongs.specs.StillBus.{StillBus}
 
 pub record Calm (s : State) : Type 0 where
   pub pending : s .status .pending ≡ Interrupt

@@ -1,15 +1,15 @@
 -- With a status unread nothing that the host does moves the bus or a command, but for Reset.
 --   unmoved   the bus lines, connection and running command after any other call
-use mathlib.Core.Path.{_≡_, refl, ap, _∙_}
-use mathlib.Core.Bool.{Bool, true, false}
+use mathlib.Core.Path.{_≡_, refl, ap}
+use mathlib.Core.Bool.{true, false}
 use mathlib.Core.List.{List, [], _∷_}
 use Prim.Native.Nat.{ℕ}
 use lib.Dec.{eqb}
-use Rattle.chip.specs.Choice.{pick, both}
+use Rattle.chip.specs.Choice.{both}
 use Rattle.chip.specs.Lines.{codeOf}
 use Rattle.chip.specs.Fifo.{isEmpty}
 use Rattle.chip.specs.Answers.{noDataNow}
-use Rattle.chip.specs.Interrupts.{interrupted, isInterrupt}
+use Rattle.chip.specs.Interrupts.{interrupted}
 use Rattle.chip.specs.TransferInfo.{dbr}
 use Rattle.chip.specs.Commands.{commanded}
 use Rattle.chip.specs.Registers as R
@@ -18,12 +18,12 @@ use Rattle.chip.specs.declared.State.{State}
 use Rattle.chip.specs.declared.Reply.{Reply}
 use Rattle.chip.specs.declared.Direction.{Direction}
 use Rattle.chip.specs.declared.Direction.the-variants.{Unfixed, In, Out}
-use Rattle.chip.proofs.Cases.{by-pick, by-case, by-test}
+use Rattle.chip.proofs.Cases.{by-pick, by-case}
 use Rattle.reached.specs.Sound.{Sound}
 use Rattle.reached.proofs.Facts.{facts}
 use Rattle.unread.specs.Status.{isReset, isCommand}
-use Rattle.unread.specs.Ending.{isEvent, Untouched}
-use Rattle.unread.proofs.Choosing.{clash, taken, passed-over}
+use Rattle.unread.specs.Ending.{isEvent}
+use Rattle.unread.proofs.Choosing.{clash, passed-over}
 use Rattle.unread.proofs.Rows.{no-data, no-block}
 use Rattle.belongs.proofs.StillBus.{calm, unread-still}
 

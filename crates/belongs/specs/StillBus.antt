@@ -1,7 +1,7 @@
 -- While the host has something to take, the bus stands still: a status that nobody has read, or the bytes of an ending.
---   owes s       the controller has something for the host: INT is set, or an ending is under way
---   StillBus f   a step's law, over every list of calls from a fresh controller: while it owes, no bus event changes anything at all, and
---                none but Time is answered as if it had been taken (`Untouched` of room unread)
+--   isPending s   something is pending for the host: INT is set, or an ending is under way
+--   StillBus f    a step's law, over every list of calls from a fresh controller: while something is pending, no bus event changes anything
+--                 at all, and none but Time is answered as if it had been taken (`Untouched` of room unread)
 use mathlib.Core.Path.{_≡_}
 use mathlib.Core.Bool.{Bool, true}
 use mathlib.Core.List.{List}
@@ -13,8 +13,8 @@ use Rattle.chip.specs.declared.State.{State}
 use Rattle.unread.specs.History.{run}
 use Rattle.unread.specs.Ending.{isEvent, Untouched}
 
-abbrev pub owes : State → Bool
-owes s = either (interrupted s) (ends s)
+abbrev pub isPending : State → Bool
+isPending s = either (interrupted s) (ends s)
 
 abbrev pub StillBus : (Call → State → Outcome) → Type 0
-StillBus f = (l : List Call) (c : Call) → owes (run f l fresh) ≡ true → isEvent c ≡ true → Untouched f c (run f l fresh)
+StillBus f = (l : List Call) (c : Call) → isPending (run f l fresh) ≡ true → isEvent c ≡ true → Untouched f c (run f l fresh)

@@ -1,7 +1,8 @@
 -- "Selection timed out" is never read of a disk that answered: what the promise says of the code 42h, over every list of calls from a fresh
 -- controller.
 --   TimedOutIsTrue f   wherever 42h stands unread, nobody is connected, and since that selection began no Answer was taken
---   begins f c s       the call c, made in s, begins a selection
+--   Selects f c s      the call c, made in s, begins a selection
+--   TurnedAway f c s   the call c, made in s, is no Answer, or it is refused
 use mathlib.Core.Path.{_≡_}
 use mathlib.Core.Bool.{true}
 use mathlib.Core.List.{List}

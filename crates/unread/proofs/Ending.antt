@@ -3,18 +3,16 @@
 --   ending-stays      only a Reset, a Disconnect while connected or the read of its last byte ends it
 --   ending-bytes      .. and commands other than the first two leave its bytes
 --   Refuses refuses   of a reply, or an outcome: nothing changed, and the answer is a refusal
-use mathlib.Core.Path.{_≡_, refl, sym, ap, _∙_}
+use mathlib.Core.Path.{_≡_, refl, ap, _∙_}
 use mathlib.Core.Bool.{Bool, true, false, not}
 use mathlib.Core.List.{List, [], _∷_}
 use Prim.Native.Nat.{ℕ, zero, suc, _+_}
 use native.Mathlib.Omega.{arith}
 use lib.Dec.{eqb, leb}
 use lib.ListN.{getD}
-use borrow.Author.Tests.{eqb-true}
 use Rattle.chip.specs.Choice.{pick, both, either}
 use Rattle.chip.specs.Phases.{phaseOf}
 use Rattle.chip.specs.Lines.{codeOf, qualifies}
-use Rattle.chip.specs.Fifo.{isEmpty}
 use Rattle.chip.specs.State.{setFifo}
 use Rattle.chip.specs.Interrupts.{isEnding, ends, isRunning, busy, withoutInterrupt, settledBy}
 use Rattle.chip.specs.Commands.{isTwo, isValid, isRefusedBusy, entryOf, table, leftOut, carriedOut, accepted, commanded}
@@ -31,14 +29,13 @@ use Rattle.chip.specs.declared.Pending.{Pending}
 use Rattle.chip.specs.declared.Pending.the-variants.{Nothing, Interrupt, Ending, ReadOut}
 use Rattle.chip.specs.declared.Connection.{Connection}
 use Rattle.chip.specs.declared.Connection.the-variants.{Disconnected, Selecting, Waiting, Connected}
-use Rattle.unread.specs.Status.{isCommand, isReset, isDisconnect, isDropped, readsAt}
-use Rattle.unread.specs.Because as B
+use Rattle.unread.specs.Status.{isCommand, isReset, isDisconnect, isDropped}
 use Rattle.unread.specs.Because.{ReadsLast}
 use Rattle.unread.specs.Ending.{isEvent, isTime, isRefusal, Untouched, isDataAccess, EndingIsStill, EndingStays}
 use Rattle.chip.proofs.Cases.{by-pick, by-case, by-test, both-first, both-second, either-first, either-rest, either-second, either-last}
 use Rattle.unread.proofs.Choosing.{clash, taken, passed-over, one-or, one-of}
 use Rattle.unread.proofs.Telling.{standing, Standing, disconnects, reads-out, has-read, Tells, silent, moves, selects, settles, begins, raises, reads, resets}
-use Rattle.unread.proofs.Host.{invalid-idle, isSelect, select-idle, abort-ends, is-disconnect}
+use Rattle.unread.proofs.Host.{invalid-idle, abort-ends, is-disconnect}
 use Rattle.unread.proofs.Told.{told, good-step}
 use Rattle.unread.proofs.Because.{Found, quiet, reading-out, resetting, because-found}
 use Rattle.unread.proofs.Rows.{last-stands}

@@ -14,7 +14,7 @@ use Rattle.chip.specs.Calls.{Call, Outcome, step, after}
 use Rattle.chip.specs.declared.State.{State}
 use Rattle.chip.specs.declared.Pending.{Pending}
 use Rattle.chip.specs.declared.Pending.the-variants.{Nothing, Interrupt, Ending, ReadOut}
-use Rattle.unread.specs.Status.{isReset, isDisconnect, readsAt, raised}
+use Rattle.unread.specs.Status.{isReset, isDisconnect, readsAt}
 use Rattle.unread.specs.History as H
 use Rattle.unread.specs.History.{Happening, Owed, nothing, unread, coming, owedBy, isComing, noted, readBy, begunBy, history, run, lastCode, owedAfter, Orderly, Follows, isRaising, hasRead, NoStatusLost}
 use Rattle.chip.proofs.Cases.{by-case, both-first, both-second, either-rest}

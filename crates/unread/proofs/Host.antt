@@ -6,8 +6,7 @@
 --   Pops pops         what one read of the Data register leads to
 --   written-stands block-stands       a write of it leaves code, what is pending, connection and command
 --   going             what holds where a block goes on and where it stops
---   invalid-idle select-idle abort-ends is-disconnect   what a command that is not refused by a busy controller, or valid, finds
---   isSelect          the code is one of the four that select
+--   invalid-idle abort-ends is-disconnect   what a command that is not refused by a busy controller, or valid, finds
 use mathlib.Core.Path.{_≡_, refl, sym, ap, _∙_}
 use mathlib.Core.Bool.{Bool, true, false, not}
 use mathlib.Core.List.{List, [], _∷_}
@@ -64,7 +63,7 @@ unfolding isRefusedBusy either
 invalid-idle k s r v = not-first (busy s) _ r (by-test (isTwo (entryOf k .level)) (λ e. rw e) (λ e. rw (e, v)))
 
 -- the four commands that select
-unfoldable pub isSelect : ℕ → Bool
+isSelect : ℕ → Bool
 isSelect k = either (eqb k 0x06) (either (eqb k 0x07) (either (eqb k 0x08) (eqb k 0x09)))
 
 each-select : (P : ℕ → Type 0) (k : ℕ) → isSelect k ≡ true → P 0x06 → P 0x07 → P 0x08 → P 0x09 → P k
@@ -72,7 +71,7 @@ unfolding isSelect
 each-select P k e x y z w = one-or P 0x06 k _ e x (λ f. one-or P 0x07 k _ f y (λ g. one-of P 0x08 0x09 k g z w))
 
 -- nor does anything run where one that selects is not refused so
-pub select-idle : (k : ℕ) (s : State) → isSelect k ≡ true → isRefusedBusy k s ≡ false → busy s ≡ false
+select-idle : (k : ℕ) (s : State) → isSelect k ≡ true → isRefusedBusy k s ≡ false → busy s ≡ false
 unfolding isRefusedBusy either entryOf table
 select-idle k s w = each-select (λ (j : ℕ). isRefusedBusy j s ≡ false → busy s ≡ false) k w free-of free-of free-of free-of
   where

@@ -14,9 +14,9 @@ use Rattle.chip.specs.declared.State.{State}
 use Rattle.chip.specs.declared.Reply.{Reply}
 use Rattle.chip.specs.declared.Pending.{Pending}
 use Rattle.chip.specs.declared.Pending.the-variants.{Nothing, Interrupt, Ending, ReadOut}
-use Rattle.unread.specs.Status.{isReset, isDisconnect, isDropped}
+use Rattle.unread.specs.Status.{isReset, isDisconnect}
 use Rattle.unread.specs.Ending.{isEvent, isDataAccess}
-use Rattle.chip.proofs.Cases.{by-pick, by-case, by-test, either-first, either-rest}
+use Rattle.chip.proofs.Cases.{by-pick, by-test}
 use Rattle.unread.proofs.Choosing.{clash}
 use Rattle.unread.proofs.Telling.{Standing, standing}
 use Rattle.unread.proofs.Host.{Pops, nothing-read, one-read, ending-read, wait-read, pops, going, written-stands, block-stands}

@@ -12,7 +12,6 @@
 --   drops-loses renames-lies                             by NoStatusLost
 --   shrugs-refused                                       by EndingIsStill
 use mathlib.Core.Path.{_≡_, refl, ap}
-use mathlib.Core.Bool.{true}
 use mathlib.Core.List.{List, [], _∷_, _++_}
 use Prim.Native.Nat.{ℕ}
 use native.Mathlib.Omega.{arith}

@@ -34,7 +34,7 @@ use Rattle.chip.specs.Interrupts.{isRunning, isIncoming, unread}
 use Rattle.chip.specs.SelectAndTransfer.{stageOf, size}
 use Rattle.chip.specs.Commands.{isConnected, isWaiting, isValid, abortPhase}
 use Rattle.chip.specs.Events.{isTransfer, setsAtn, namesTarget}
-use Rattle.chip.specs.Calls.{Call, Outcome, register, block, time, answer, reselection, request, free, isGood, isSet}
+use Rattle.chip.specs.Calls.{Call, Outcome, block, time, answer, reselection, request, free, isGood, isSet}
 use Rattle.chip.specs.declared.State.{State}
 use Rattle.chip.specs.declared.Stage.{Stage}
 use Rattle.chip.specs.declared.Stage.the-variants.{SendIdentify, SendCommand, Body, AfterData, Disconnecting, Reselected, AfterStatus, Elsewhere}

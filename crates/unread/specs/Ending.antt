@@ -10,7 +10,6 @@
 --   isDataAccess c s     the call c, made in s, is an access to the Data register: at 19h, or a block
 use mathlib.Core.Path.{_≡_}
 use mathlib.Core.Bool.{Bool, true, false}
-use Prim.Native.Nat.{ℕ}
 use lib.Dec.{eqb, leb}
 use Rattle.chip.specs.Choice.{both, either}
 use Rattle.chip.specs.Interrupts.{ends}
