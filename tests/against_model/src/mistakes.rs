@@ -1,5 +1,6 @@
 //! Models that are wrong on purpose: the run has to catch each, or it proves nothing. The first four are the paper's "Readings to
-//! shut out"; then some of its programs that "have to fall"; then mistakes that are easily made.
+//! shut out"; then some of its programs that "have to fall"; then the fault that the library is proved against, and one like it; then
+//! mistakes that are easily made.
 
 use crate::call::{Call, Slice};
 use model::{Answer, Connection, Controller, Pending, Running, Way};
@@ -12,6 +13,8 @@ pub enum Mistake {
     ReportedByteTaken,
     HoldsEveryEvent,
     NodsAtAllButTheFirstByte,
+    AnswerTakenOverUnreadTimeout,
+    TimeForgetsAnEnding,
     TimeoutOneUnitLate,
     ThirteenthByteAccepted,
     PointerMovesAtData,
@@ -26,13 +29,15 @@ pub enum Mistake {
 }
 
 impl Mistake {
-    pub const ALL: [Mistake; 17] = [
+    pub const ALL: [Mistake; 19] = [
         Mistake::CountFallsOnHostWrite,
         Mistake::AuxiliaryReadClearsInt,
         Mistake::SuccessCodeBeforeReadOut,
         Mistake::ReportedByteTaken,
         Mistake::HoldsEveryEvent,
         Mistake::NodsAtAllButTheFirstByte,
+        Mistake::AnswerTakenOverUnreadTimeout,
+        Mistake::TimeForgetsAnEnding,
         Mistake::TimeoutOneUnitLate,
         Mistake::ThirteenthByteAccepted,
         Mistake::PointerMovesAtData,
@@ -72,6 +77,13 @@ impl Mistake {
             (Mistake::NodsAtAllButTheFirstByte, Call::Block { mark: 1, .. }, Answer::Done(2..)) => {
                 *state = before;
                 state.block(1, &mut slice[..1]);
+            }
+            (Mistake::AnswerTakenOverUnreadTimeout, Call::Answer, Answer::OutOfPlace) if before.has_interrupt() && before.code == 0x42 => {
+                state.connection = Connection::Connected;
+                return Answer::Done(0);
+            }
+            (Mistake::TimeForgetsAnEnding, Call::Time { .. }, Answer::Done(_)) if matches!(before.pending, Pending::Ending(_)) => {
+                state.pending = Pending::Nothing;
             }
             (Mistake::TimeoutOneUnitLate, Call::Time { units }, _) if before.connection == Connection::Selecting => {
                 let sum = u32::from(before.elapsed) + units;
