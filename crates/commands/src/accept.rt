@@ -2,10 +2,11 @@
 ghost use mathlib.Core.Bool.{not};
 ghost use mathlib.Core.Path.{_≡_};
 ghost use Rattle.chip.specs.Choice.{both, either, pick};
-ghost use Rattle.chip.specs.Commands.{accepted, entryOf, isConnected, isPlace, isReady, isRefusedBusy, isSome, isTwo, isValid};
+ghost use Rattle.chip.specs.Commands.{accepted, isConnected, isPlace, isReady, isSome, isTwo};
 ghost use Rattle.chip.specs.Interrupts.{busy, ends};
 ghost use Rattle.chip.specs.SelectAndTransfer.{hasSize, isResumable};
 use crate::table;
+use chip::Entry;
 use chip::Noted;
 use chip::State;
 use combination::resume;
@@ -81,39 +82,48 @@ fn is_ready(c: u8, s: State) -> bool
     true
 }
 
-fn is_in_place(c: u8, s: State) -> bool
-    ensures { λ r. ⌜ r ≡ isPlace (entryOf c .place) (s .wire .connection) ⌝ }
+fn is_in_place(e: Entry, s: State) -> bool
+    ensures { λ r. ⌜ r ≡ isPlace (e .place) (s .wire .connection) ⌝ }
 {
-    table::is_in_place(c, get::connection(s))
+    let place = e.place;
+    table::is_place(place, get::connection(s))
 }
 
-pub fn is_valid(c: u8, s: State) -> bool
-    ensures { λ r. ⌜ r ≡ isValid c s ⌝ }
+// e is the table's entry for code c.
+pub fn is_valid(e: Entry, c: u8, s: State) -> bool
+    ensures { λ r. ⌜ r ≡ both (isPlace (e .place) (s .wire .connection)) (isReady c s) ⌝ }
 {
-    if is_in_place(c, s) {
+    if is_in_place(e, s) {
         return is_ready(c, s);
     }
     false
 }
 
-// Level II, or not valid now.
-fn is_out_of_turn(c: u8, s: State) -> bool
-    ensures { λ r. ⌜ r ≡ either (isTwo (entryOf c .level)) (not (isValid c s)) ⌝ }
+fn is_level_two(e: Entry) -> bool
+    ensures { λ r. ⌜ r ≡ isTwo (e .level) ⌝ }
 {
-    if table::is_level_two(c) {
+    let level = e.level;
+    table::is_two(level)
+}
+
+// Level II, or not valid now.
+fn is_out_of_turn(e: Entry, c: u8, s: State) -> bool
+    ensures { λ r. ⌜ r ≡ either (isTwo (e .level)) (not (both (isPlace (e .place) (s .wire .connection)) (isReady c s))) ⌝ }
+{
+    if is_level_two(e) {
         return true;
     }
-    if is_valid(c, s) {
+    if is_valid(e, c, s) {
         return false;
     }
     true
 }
 
-pub fn is_refused_busy(c: u8, s: State) -> bool
-    ensures { λ r. ⌜ r ≡ isRefusedBusy c s ⌝ }
+pub fn is_refused_busy(e: Entry, c: u8, s: State) -> bool
+    ensures { λ r. ⌜ r ≡ both (busy s) (either (isTwo (e .level)) (not (both (isPlace (e .place) (s .wire .connection)) (isReady c s)))) ⌝ }
 {
     if interrupts::busy(s) {
-        return is_out_of_turn(c, s);
+        return is_out_of_turn(e, c, s);
     }
     false
 }

@@ -50,18 +50,20 @@ pub fn commanded(b: u8, s: State) -> Reply
     ensures { λ r. ⌜ r ≡ commanded b s ⌝ }
 {
     let c = lines::code_of(b);
+    // "A constant table of 34 entries, level and valid connection, looked up before a command is accepted."
+    let e = table::entry_of(c);
     if c == 0x00 {
         return answers::done(0, act::reset(b, s));
     }
     if interrupts::interrupted(s) {
         return answers::ignored(s);
     }
-    if accept::is_refused_busy(c, s) {
+    if accept::is_refused_busy(e, c, s) {
         return answers::ignored(s);
     }
-    let t = accept::accepted(b, s);
-    if accept::is_valid(c, s) {
+    if accept::is_valid(e, c, s) {
+        let t = accept::accepted(b, s);
         return answers::done(0, carried_out(c, lines::is_single(b), t));
     }
-    answers::done(0, interrupts::interrupt(0x40, t))
+    answers::done(0, interrupts::interrupt(0x40, accept::accepted(b, s)))
 }

@@ -7,138 +7,172 @@ use chip::Level;
 use chip::Place;
 
 const TABLE: [Entry; 34] = [
+    // 00 Reset
     Entry {
         level: Level::One,
         place: Place::Anywhere,
     },
+    // 01 Abort
     Entry {
         level: Level::One,
         place: Place::Anywhere,
     },
+    // 02 Assert ATN
     Entry {
         level: Level::One,
         place: Place::WhenConnected,
     },
+    // 03 Negate ACK
     Entry {
         level: Level::One,
         place: Place::WhenConnected,
     },
+    // 04 Disconnect
     Entry {
         level: Level::One,
         place: Place::WhenConnected,
     },
+    // 05 Reselect
     Entry {
         level: Level::Two,
         place: Place::Nowhere,
     },
+    // 06 Select with ATN
     Entry {
         level: Level::Two,
         place: Place::WhenDisconnected,
     },
+    // 07 Select without ATN
     Entry {
         level: Level::Two,
         place: Place::WhenDisconnected,
     },
+    // 08 Select-And-Transfer with ATN
     Entry {
         level: Level::Two,
         place: Place::WhenConnectedOrDisconnected,
     },
+    // 09 Select-And-Transfer without ATN
     Entry {
         level: Level::Two,
         place: Place::WhenConnectedOrDisconnected,
     },
+    // 0Ah Reselect-and-Receive-Data
     Entry {
         level: Level::Two,
         place: Place::Nowhere,
     },
+    // 0Bh Reselect-and-Send-Data
     Entry {
         level: Level::Two,
         place: Place::Nowhere,
     },
+    // 0Ch Wait-for-Select-and-Receive
     Entry {
         level: Level::Two,
         place: Place::Nowhere,
     },
+    // 0Dh Send-Status-and-Command-Complete
     Entry {
         level: Level::Two,
         place: Place::Nowhere,
     },
+    // 0Eh Send-Disconnect-Message
     Entry {
         level: Level::Two,
         place: Place::Nowhere,
     },
+    // 0Fh Set IDI
     Entry {
         level: Level::One,
         place: Place::WhenConnectedOrWaiting,
     },
+    // 10h Receive Command
     Entry {
         level: Level::Two,
         place: Place::Nowhere,
     },
+    // 11h Receive Data
     Entry {
         level: Level::Two,
         place: Place::Nowhere,
     },
+    // 12h Receive Message Out
     Entry {
         level: Level::Two,
         place: Place::Nowhere,
     },
+    // 13h Receive Unspecified Info Out
     Entry {
         level: Level::Two,
         place: Place::Nowhere,
     },
+    // 14h Send Status
     Entry {
         level: Level::Two,
         place: Place::Nowhere,
     },
+    // 15h Send Data
     Entry {
         level: Level::Two,
         place: Place::Nowhere,
     },
+    // 16h Send Message In
     Entry {
         level: Level::Two,
         place: Place::Nowhere,
     },
+    // 17h Send Unspecified Info In
     Entry {
         level: Level::Two,
         place: Place::Nowhere,
     },
+    // 18h Translate Address
     Entry {
         level: Level::Two,
         place: Place::Nowhere,
     },
+    // 19h
     Entry {
         level: Level::Two,
         place: Place::Nowhere,
     },
+    // 1Ah
     Entry {
         level: Level::Two,
         place: Place::Nowhere,
     },
+    // 1Bh
     Entry {
         level: Level::Two,
         place: Place::Nowhere,
     },
+    // 1Ch
     Entry {
         level: Level::Two,
         place: Place::Nowhere,
     },
+    // 1Dh
     Entry {
         level: Level::Two,
         place: Place::Nowhere,
     },
+    // 1Eh
     Entry {
         level: Level::Two,
         place: Place::Nowhere,
     },
+    // 1Fh
     Entry {
         level: Level::Two,
         place: Place::Nowhere,
     },
+    // 20h Transfer Info
     Entry {
         level: Level::Two,
         place: Place::WhenConnected,
     },
+    // 21h Transfer Pad
     Entry {
         level: Level::Two,
         place: Place::Nowhere,
@@ -158,22 +192,14 @@ pub fn entry_of(c: u8) -> Entry
     }
 }
 
-fn is_two(l: Level) -> bool
+// The command counts as Level II.
+pub fn is_two(l: Level) -> bool
     ensures { λ r. ⌜ r ≡ isTwo l ⌝ }
 {
     match l {
         Level::One => false,
         Level::Two => true,
     }
-}
-
-// The command counts as Level II.
-pub fn is_level_two(c: u8) -> bool
-    ensures { λ r. ⌜ r ≡ isTwo (entryOf c .level) ⌝ }
-{
-    let e = entry_of(c);
-    let level = e.level;
-    is_two(level)
 }
 
 pub fn is_connected(c: Connection) -> bool
@@ -227,7 +253,8 @@ fn is_connected_or_disconnected(c: Connection) -> bool
     is_disconnected(c)
 }
 
-fn is_place(p: Place, c: Connection) -> bool
+// The connection is one in which the command is valid.
+pub fn is_place(p: Place, c: Connection) -> bool
     ensures { λ r. ⌜ r ≡ isPlace p c ⌝ }
 {
     match p {
@@ -238,13 +265,4 @@ fn is_place(p: Place, c: Connection) -> bool
         Place::WhenConnectedOrWaiting => is_connected_or_waiting(c),
         Place::WhenConnectedOrDisconnected => is_connected_or_disconnected(c),
     }
-}
-
-// The connection is one in which the command is valid.
-pub fn is_in_place(c: u8, k: Connection) -> bool
-    ensures { λ r. ⌜ r ≡ isPlace (entryOf c .place) k ⌝ }
-{
-    let e = entry_of(c);
-    let place = e.place;
-    is_place(place, k)
 }

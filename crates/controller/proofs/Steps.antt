@@ -18,6 +18,7 @@ use Rattle.chip.specs.declared.Reply.{Reply}
 use Rattle.chip.specs.declared.Answer.the-variants.{Done}
 use Rattle.chip.specs.declared.Phase.the-variants.{DataIn, DataOut}
 use Rattle.chip.specs.declared.Noted.the-variants.{Was}
+use Rattle.chip.specs.Answers.{done}
 use Rattle.chip.specs.Entries.{result}
 use Rattle.chip.specs.Fifo.{isEmpty, front, pop, push}
 use Rattle.chip.specs.State.{fresh, setPointer, setFifo, setCount, setLast}
@@ -81,37 +82,41 @@ module _ (l : List ℕ) (o : Standing l) where
   unfolding stateOf
   plain-below e = below (stateOf l) e
 
-  pub plain-written : (b : ℕ) (after after₂ : List ℕ) → isPlain (stateOf l) ≡ true → b < 256
+  pub plain-written : (b next : ℕ) (after after₂ : List ℕ) → isPlain (stateOf l) ≡ true → b < 256
       → after ≡ pick (both (eqb (length l) 53) (ltb (getD l 25 0) 23)) (set l (getD l 25 0) b) l
-      → after₂ ≡ pick (eqb (length after) 53) (set after 25 (getD l 25 0 + 1)) after
+      → next ≡ (getD l 25 0 + 1) % 256 → after₂ ≡ pick (eqb (length after) 53) (set after 25 next) after
       → Made (accessed true b (stateOf l)) 0 after₂
   unfolding stateOf
-  plain-written b after after₂ e h f g =
+  plain-written b next after after₂ e h f w g =
       let a = getD l 25 0 in
       let k : a < 23 = plain-below e in
       let f′ : after ≡ set l a b = f ∙ pick-true _ _ _ (and-true (long-enough l (o .valid)) (lt-ltb _ _ k)) in
       let n : length after ≡ 53 = ap length f′ ∙ length-set l a b ∙ length-is in
-      let g′ : after₂ ≡ set after 25 (a + 1) = g ∙ pick-true _ _ _ (eq-eqb _ _ n) in
-      replied _ _ _ _ (plain-write (stateOf l) e b)
+      let g′ : after₂ ≡ set after 25 next = g ∙ pick-true _ _ _ (eq-eqb _ _ n) in
+      let p : accessed true b (stateOf l) ≡ done 0 (setPointer next (stored a b (stateOf l))) =
+      plain-write (stateOf l) e b ∙ ap (λ (x : ℕ). done 0 (setPointer x (stored a b (stateOf l)))) (sym w) in
+      replied _ _ _ _ p
       (record {
         number = refl;
         image =
-            g′ ∙ ap (λ (x : List ℕ). set x 25 (a + 1)) f′ ∙ ap (λ (x : List ℕ). set (set x a b) 25 (a + 1)) (start .image)
-            ∙ sym (register-and-pointer b (a + 1) (stateOf l) (start .long) h a k);
+            g′ ∙ ap (λ (x : List ℕ). set x 25 next) f′ ∙ ap (λ (x : List ℕ). set (set x a b) 25 next) (start .image)
+            ∙ sym (register-and-pointer b next (stateOf l) (start .long) h a k);
       })
 
-  pub plain-given : (b : ℕ) (after : List ℕ) → isPlain (stateOf l) ≡ true
-      → after ≡ pick (eqb (length l) 53) (set l 25 (getD l 25 0 + 1)) l
+  pub plain-given : (b next : ℕ) (after : List ℕ) → isPlain (stateOf l) ≡ true
+      → next ≡ (getD l 25 0 + 1) % 256 → after ≡ pick (eqb (length l) 53) (set l 25 next) l
       → Made (accessed false b (stateOf l)) (256 * getD l (getD l 25 0) 0) after
   unfolding stateOf
-  plain-given b after e f =
+  plain-given b next after e w f =
       let a = getD l 25 0 in
       let v : registerAt a (stateOf l .registers) ≡ getD l a 0 =
       register-at (stateOf l) (start .long) a (plain-below e) ∙ ap (λ (x : List ℕ). getD x a 0) (o .same) in
-      replied _ _ _ _ (plain-read (stateOf l) e b)
+      let p : accessed false b (stateOf l) ≡ done (registerAt a (stateOf l .registers)) (setPointer next (stateOf l)) =
+      plain-read (stateOf l) e b ∙ ap (λ (x : ℕ). done (registerAt a (stateOf l .registers)) (setPointer x (stateOf l))) (sym w) in
+      replied _ _ _ _ p
       (record {
         number = ap (λ (x : ℕ). 256 * x) (sym v) ∙ sym (zero-add _);
-        image = put-pointer-at start after (a + 1) f .image;
+        image = put-pointer-at start after next f .image;
       })
 
   pub data-given : (b : ℕ) (t : State) (q : Fifo) (f : ℕ) (after : List ℕ) → t ≡ pick (eqb (length l) 53) (stateOf l) fresh

@@ -42,7 +42,7 @@ pub(crate) fn auxiliary(image: &mut [u8]) -> u32
     finish::result(a)
 }
 
-// One of registers 00 to 16h is read.
+// One of registers 00 to 16h is read. "The 8-bit address pointer uses the supplied wrapping add at every address but three."
 fn plain_read(image: &mut [u8]) -> u32
     requires { ⌜ Standing (now image) × (isPlain (stateOf (now image)) ≡ true) ⌝ }
     ensures { λ r. ⌜ Made (accessed false 0 (stateOf (now (image .entry)))) r (now (image .exit)) ⌝ }
@@ -50,7 +50,7 @@ fn plain_read(image: &mut [u8]) -> u32
     let a = image[25];
     let at = a as usize;
     let value = image[at];
-    fields::put_pointer(a + 1, image);
+    fields::put_pointer(std::num::wrapping_add_u8(a, 1), image);
     256 * (value as u32)
 }
 
@@ -61,7 +61,7 @@ fn plain_written(byte: u8, image: &mut [u8]) -> u32
 {
     let a = image[25];
     fields::put_register(a, byte, image);
-    fields::put_pointer(a + 1, image);
+    fields::put_pointer(std::num::wrapping_add_u8(a, 1), image);
     0
 }
 

@@ -4,7 +4,6 @@
 use mathlib.Core.Path.{_≡_, refl, ap, sym, _∙_}
 use mathlib.Core.Bool.{Bool, true, false, not}
 use Prim.Native.Nat.{ℕ, _+_, _-_, _%_, _<_, _≤_}
-use native.Mathlib.Nat.{mod-eq-of-lt}
 use native.Mathlib.Omega.{arith}
 use lib.Dec.{eqb, ltb, leb}
 use borrow.Author.Tests.{ltb-true, leb-true, eqb-true, not-true, lt-leb, ne-eqb}
@@ -85,18 +84,15 @@ module _ (s : State) (e : isPlain s ≡ true) where
   no-auxiliary : eqb (s .status .pointer) 0x1F ≡ false
   no-auxiliary = ne-eqb (s .status .pointer) 0x1F (λ q. omega (arith, below))
 
-  next : (s .status .pointer + 1) % 256 ≡ s .status .pointer + 1
-  next = mod-eq-of-lt (omega (arith, below))
-
   pub plain-read : (b : ℕ) → accessed false b s
-      ≡ done (registerAt (s .status .pointer) (s .registers)) (setPointer (s .status .pointer + 1) s)
+      ≡ done (registerAt (s .status .pointer) (s .registers)) (setPointer ((s .status .pointer + 1) % 256) s)
   unfolding accessed stepped accessedAt isBlind readAt pointerAfter pick both either
-  plain-read b = simp (idle, reached, no-status, no-command, no-data, no-auxiliary, next)
+  plain-read b = simp (idle, reached, no-status, no-command, no-data, no-auxiliary)
 
   pub plain-write : (b : ℕ) → accessed true b s
-      ≡ done 0 (setPointer (s .status .pointer + 1) (stored (s .status .pointer) b s))
+      ≡ done 0 (setPointer ((s .status .pointer + 1) % 256) (stored (s .status .pointer) b s))
   unfolding accessed stepped accessedAt isBlind writtenAt pointerAfter pick both either
-  plain-write b = simp (idle, reached, no-status, no-command, no-data, no-auxiliary, next)
+  plain-write b = simp (idle, reached, no-status, no-command, no-data, no-auxiliary)
 
 -- The Data register
 

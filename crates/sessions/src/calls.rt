@@ -24,7 +24,7 @@ use controller::am33c93a_reselection;
 use controller::am33c93a_time;
 
 // The first word of a line; the host's calls first. `verb` below is a row of this table.
-pub const VERBS: [u8; 114] = *b"pointer
+pub(crate) const VERBS: [u8; 114] = *b"pointer
 pointer?
 auxiliary
 read
@@ -43,21 +43,21 @@ Free
 lines
 ";
 
-pub const CODE: u32 = 6;
+pub(crate) const CODE: u32 = 6;
 
-pub const REQUEST: u32 = 14;
+pub(crate) const REQUEST: u32 = 14;
 
 const FIRST_OF_THE_BUS: u32 = 11;
 
 const NO_VERB: u32 = 17;
 
-pub fn verb_of(line: &[u8]) -> u32
+pub(crate) fn verb_of(line: &[u8]) -> u32
     ensures { λ r. ⌜ r ≤ 17 ⌝ }
 {
     tables::row_of_word(&VERBS, NO_VERB, line, 0)
 }
 
-pub fn is_bus(verb: u32) -> bool {
+pub(crate) fn is_bus(verb: u32) -> bool {
     verb >= FIRST_OF_THE_BUS
 }
 
@@ -74,7 +74,7 @@ fn read_at(address: u32, image: &mut [u8]) -> u32 {
 }
 
 // How often a line asks for its call: xN is one of its words, and no other word of such a line has an x.
-pub fn times(line: &[u8]) -> u32
+pub(crate) fn times(line: &[u8]) -> u32
     ensures { λ r. ⌜ r < 268435456 ⌝ }
 {
     let at = words::place_of(line, 0, b'x');
@@ -148,14 +148,14 @@ fn block_in(n: u32, image: &mut [u8], data: &mut [u8]) -> u32 {
 
 // The i-th Request of a series: its byte has risen i times.
 // 8 for a word that is no phase, which is Bad number.
-pub fn requested(line: &[u8], i: u32, image: &mut [u8]) -> u32 {
+pub(crate) fn requested(line: &[u8], i: u32, image: &mut [u8]) -> u32 {
     let byte = std::num::wrapping_add_u32(words::operand(line, 2), i);
     let phase = tables::row_of_word(&tables::PHASES, 8, line, 1);
     am33c93a_request(image, phase, byte, parity_of(line))
 }
 
 // The answer's number and value, as an entry returns them; 3, Bad number, for a line that is no call.
-pub fn made(verb: u32, line: &[u8], image: &mut [u8], data: &mut [u8]) -> u32 {
+pub(crate) fn made(verb: u32, line: &[u8], image: &mut [u8], data: &mut [u8]) -> u32 {
     let a = words::operand(line, 1);
     let b = words::operand(line, 2);
     match verb {

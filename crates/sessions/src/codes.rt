@@ -5,7 +5,7 @@ use crate::names::say;
 use crate::tables;
 
 // first holds the session by the code; 0 while the code was not read.
-pub fn note(code: u32, session: u8, first: &mut [u8]) {
+pub(crate) fn note(code: u32, session: u8, first: &mut [u8]) {
     let place = code as usize;
     if place < first.len() {
         if first[place] == 0 {
@@ -43,7 +43,7 @@ fn say_line(k: u32, first: &[u8]) -> u32
 }
 
 // The list of all codes; its result is how many were read.
-pub fn say_all(first: &[u8]) -> u32 {
+pub(crate) fn say_all(first: &[u8]) -> u32 {
     let mut read: u32 = 0;
     let mut k: u32 = 0;
     while k < tables::CODE_ROWS {

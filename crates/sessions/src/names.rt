@@ -1,26 +1,26 @@
 // Answers, codes and numbers in words, written to the output.
 use crate::tables;
 
-pub fn say(text: &[u8]) {
+pub(crate) fn say(text: &[u8]) {
     io::write_all(1, text);
 }
 
 const DIGITS: [u8; 16] = *b"0123456789ABCDEF";
 
 // A byte as the paper writes it: 8Bh.
-pub fn say_byte(n: u32) {
+pub(crate) fn say_byte(n: u32) {
     let high = (n / 16 % 16) as usize;
     let low = (n % 16) as usize;
     let text = [DIGITS[high], DIGITS[low], b'h'];
     say(&text);
 }
 
-pub fn say_decimal(n: u32) {
+pub(crate) fn say_decimal(n: u32) {
     io::print_decimal(1, n as u64);
 }
 
 // A number below 100 in a column of three.
-pub fn say_number(n: u32) {
+pub(crate) fn say_number(n: u32) {
     if n < 10 {
         say(b" ");
     }
@@ -28,19 +28,19 @@ pub fn say_number(n: u32) {
     say_decimal(n);
 }
 
-pub fn say_row(table: &[u8], k: u32) {
+pub(crate) fn say_row(table: &[u8], k: u32) {
     let r = tables::row(table, k);
     let from = r.from;
     let to = r.to;
     say(&table[from..to]);
 }
 
-pub fn say_answer(number: u32) {
+pub(crate) fn say_answer(number: u32) {
     say_row(&tables::ANSWER_NAMES, number);
 }
 
 // The code and its name.
-pub fn say_code(code: u32) {
+pub(crate) fn say_code(code: u32) {
     say_row(&tables::CODES, tables::row_of_code(code));
 }
 
@@ -51,7 +51,7 @@ fn say_flag(bits: u32, k: u32) {
     }
 }
 
-pub fn say_auxiliary(aux: u32) {
+pub(crate) fn say_auxiliary(aux: u32) {
     let mut bits = aux % 256;
     let mut k = 0;
     while k < 8 {
@@ -61,7 +61,7 @@ pub fn say_auxiliary(aux: u32) {
     }
 }
 
-pub fn say_lines(lines: u32) {
+pub(crate) fn say_lines(lines: u32) {
     say_row(&tables::CONNECTIONS, lines / 8 % 8);
     if lines / 64 % 2 == 1 {
         say(b" ATN");
@@ -74,7 +74,7 @@ pub fn say_lines(lines: u32) {
 }
 
 // Blanks from a column to the place of the answers.
-pub fn say_gap(column: usize) {
+pub(crate) fn say_gap(column: usize) {
     let blanks = [b' '; 40];
     if column < 40 {
         say(&blanks[column..]);

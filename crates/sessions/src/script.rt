@@ -269,7 +269,7 @@ fn all_lines(text: &[u8], image: &mut [u8], data: &mut [u8], first: &mut [u8]) -
     tally
 }
 
-pub fn run(text: &[u8]) {
+pub(crate) fn run(text: &[u8]) {
     let mut image = [0u8; 53];
     let mut data = [0u8; 32];
     let mut first = [0u8; 256];

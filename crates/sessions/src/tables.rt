@@ -5,7 +5,7 @@ ghost use Prim.Native.Nat.{_≤_};
 ghost use lib.ListN.{length};
 
 // Answers 0 to 8, by the first word of each.
-pub const ANSWERS: [u8; 56] = *b"Done
+pub(crate) const ANSWERS: [u8; 56] = *b"Done
 Held
 Out
 Bad
@@ -17,7 +17,7 @@ Reported
 ";
 
 // .. and whole.
-pub const ANSWER_NAMES: [u8; 97] = *b"Done
+pub(crate) const ANSWER_NAMES: [u8; 97] = *b"Done
 Held
 Out of place
 Bad number
@@ -29,7 +29,7 @@ Reported
 ";
 
 // Phases 0 to 7.
-pub const PHASES: [u8; 71] = *b"Data-Out
+pub(crate) const PHASES: [u8; 71] = *b"Data-Out
 Data-In
 Command
 Status
@@ -40,7 +40,7 @@ Message-In
 ";
 
 // Auxiliary status from bit 7 down; bits 3 and 2 are always 0.
-pub const AUXILIARY: [u8; 25] = *b"INT
+pub(crate) const AUXILIARY: [u8; 25] = *b"INT
 LCI
 BSY
 CIP
@@ -51,7 +51,7 @@ DBR
 ";
 
 // Bits 5 to 3 of what the controller drives.
-pub const CONNECTIONS: [u8; 58] = *b"Disconnected
+pub(crate) const CONNECTIONS: [u8; 58] = *b"Disconnected
 connected
 selecting
 
@@ -59,7 +59,7 @@ waiting for reselection
 ";
 
 // Every status code that the first version can raise: the table `Because` of the room unread, which is proved to have them all.
-pub const CODES: [u8; 1273] = *b"00h  Reset is done
+pub(crate) const CODES: [u8; 1273] = *b"00h  Reset is done
 11h  selected
 16h  Select-And-Transfer is complete
 18h  Transfer Info is over, next is Data Out
@@ -105,10 +105,10 @@ pub const CODES: [u8; 1273] = *b"00h  Reset is done
 8Fh  asked for Message In
 ";
 
-pub const CODE_ROWS: u32 = 44;
+pub(crate) const CODE_ROWS: u32 = 44;
 
 // Row k of a table, counted from 0; an empty one at the table's end where there are fewer.
-pub fn row(table: &[u8], k: u32) -> Part
+pub(crate) fn row(table: &[u8], k: u32) -> Part
     ensures { λ r. ⌜ (r .from ≤ r .to) × (r .to ≤ length (now (table .entry))) ⌝ }
 {
     let mut from = 0;
@@ -130,7 +130,7 @@ fn is_row(table: &[u8], k: u32, word: &[u8]) -> bool {
 }
 
 // Which of the first n rows is this word; n where none is.
-pub fn row_of(table: &[u8], n: u32, word: &[u8]) -> u32
+pub(crate) fn row_of(table: &[u8], n: u32, word: &[u8]) -> u32
     ensures { λ r. ⌜ r ≤ n ⌝ }
 {
     let mut k = 0;
@@ -144,7 +144,7 @@ pub fn row_of(table: &[u8], n: u32, word: &[u8]) -> u32
 }
 
 // .. for word k of a line.
-pub fn row_of_word(table: &[u8], n: u32, line: &[u8], k: u32) -> u32
+pub(crate) fn row_of_word(table: &[u8], n: u32, line: &[u8], k: u32) -> u32
     ensures { λ r. ⌜ r ≤ n ⌝ }
 {
     let w = words::word(line, k);
@@ -154,7 +154,7 @@ pub fn row_of_word(table: &[u8], n: u32, line: &[u8], k: u32) -> u32
 }
 
 // The code that row k of CODES is about.
-pub fn code_at(k: u32) -> u32 {
+pub(crate) fn code_at(k: u32) -> u32 {
     let r = row(&CODES, k);
     let from = r.from;
     let to = r.to;
@@ -162,7 +162,7 @@ pub fn code_at(k: u32) -> u32 {
 }
 
 // The row of CODES about this code.
-pub fn row_of_code(code: u32) -> u32 {
+pub(crate) fn row_of_code(code: u32) -> u32 {
     let mut k = 0;
     while k < CODE_ROWS {
         if code_at(k) == code {

@@ -3,9 +3,9 @@ ghost use mathlib.Core.Path.{_≡_};
 ghost use Prim.Native.Nat.{_*_, _≤_, _<_};
 ghost use lib.ListN.{length};
 
-pub struct Part {
-    pub from: usize,
-    pub to: usize,
+pub(crate) struct Part {
+    pub(crate) from: usize,
+    pub(crate) to: usize,
 }
 
 // The first place from `from` on that holds `b`, or the text's end.
@@ -39,7 +39,7 @@ fn past(line: &[u8], from: usize, blank: bool) -> usize
 }
 
 // Word k of a line, counted from 0; an empty one at the line's end where there are fewer.
-pub fn word(line: &[u8], k: u32) -> Part
+pub(crate) fn word(line: &[u8], k: u32) -> Part
     ensures { λ r. ⌜ (r .from ≤ r .to) × (r .to ≤ length (now (line .entry))) ⌝ }
 {
     let mut from = past(line, 0, false);
@@ -54,7 +54,7 @@ pub fn word(line: &[u8], k: u32) -> Part
 }
 
 // Whether word k of a line is this one.
-pub fn is(line: &[u8], k: u32, name: &[u8]) -> bool {
+pub(crate) fn is(line: &[u8], k: u32, name: &[u8]) -> bool {
     let w = word(line, k);
     let from = w.from;
     let to = w.to;
@@ -62,7 +62,7 @@ pub fn is(line: &[u8], k: u32, name: &[u8]) -> bool {
 }
 
 // The place after `at`, or the end.
-pub fn after(text: &[u8], at: usize) -> usize
+pub(crate) fn after(text: &[u8], at: usize) -> usize
     ensures { λ r. ⌜ r ≤ length (now (text .entry)) ⌝ }
 {
     if at < text.len() { at + 1 } else { text.len() }
@@ -78,7 +78,7 @@ fn digit(b: u8) -> u32
     }
 }
 
-pub fn wide(b: u8) -> u32
+pub(crate) fn wide(b: u8) -> u32
     ensures { λ r. ⌜ r ≡ b ⌝ }
 {
     b as u32
@@ -111,7 +111,7 @@ fn digits(word: &[u8], is_hex: bool) -> u32
 }
 
 // What a word says as a number; 0 for a word that is none.
-pub fn number(word: &[u8]) -> u32
+pub(crate) fn number(word: &[u8]) -> u32
     ensures { λ r. ⌜ r < 268435456 ⌝ }
 {
     if word.len() == 0 {
@@ -124,7 +124,7 @@ pub fn number(word: &[u8]) -> u32
     digits(word, false)
 }
 
-pub fn operand(line: &[u8], k: u32) -> u32
+pub(crate) fn operand(line: &[u8], k: u32) -> u32
     ensures { λ r. ⌜ r < 268435456 ⌝ }
 {
     let w = word(line, k);

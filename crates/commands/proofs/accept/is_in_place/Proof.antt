@@ -7,12 +7,12 @@ use Rattle.commands.proofs.accept.is_in_place.Tie as tie
 connection-requires : tie.Need-connection-requires
 connection-requires c κs = search needs
 
-is-in-place-requires : tie.Need-is-in-place-requires
-is-in-place-requires c κs = search needs
+is-place-requires : tie.Need-is-place-requires
+is-place-requires c κs = search needs
 
 returns : tie.Need-returns
 unfolding either
-returns c = simp (c .before .connection .ensures, c .is-in-place .ensures)
+returns c = simp (c .before .connection .ensures, c .is-place .ensures)
 
 pub is-in-place-spec : {M : Type 1} → statement M
-is-in-place-spec = tie.close (tie.spec connection-requires is-in-place-requires returns)
+is-in-place-spec = tie.close (tie.spec connection-requires is-place-requires returns)

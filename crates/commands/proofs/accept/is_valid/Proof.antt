@@ -1,6 +1,5 @@
 -- `commands::accept::is_valid` meets its contract: each way through the code is the definition's own way.
 use mathlib.Core.Path.{sym, _∙_}
-use Rattle.chip.specs.Commands.{isValid}
 use Rattle.chip.specs.Choice.{both}
 use borrow.Author.Needs.{needs}
 use Rattle.commands.proofs.accept.is_valid.Statement.{statement}
@@ -13,11 +12,11 @@ is-ready-requires : tie.Need-is-ready-requires
 is-ready-requires c κs = search needs
 
 returns : tie.Need-returns
-unfolding isValid both
+unfolding both
 returns c = simp (sym (c .before .before .is-in-place .ensures) ∙ (c .before .if1 .taken), c .is-ready .ensures)
 
 returns-2 : tie.Need-returns-2
-unfolding isValid both
+unfolding both
 returns-2 c = simp (sym (c .before .is-in-place .ensures) ∙ (c .if1 .left))
 
 pub is-valid-spec : {M : Type 1} → statement M

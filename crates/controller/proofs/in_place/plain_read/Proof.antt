@@ -15,23 +15,23 @@ cast-at c = omega (arith, c .slice-known2 .given 25)
 slice-read-value : tie.Need-slice-read-value
 slice-read-value c = omega (arith, length-is _ (c .before .before .before .pre .0), plain-below _ (c .before .before .before .pre .0) (c .before .before .before .pre .1))
 
-add-put-pointer : tie.Need-add-put-pointer
-add-put-pointer c = omega (arith, plain-below _ (c .before .before .before .pre .0) (c .before .before .before .pre .1))
+wrapping-add-u8-requires : tie.Need-wrapping-add-u8-requires
+wrapping-add-u8-requires c κs = search needs
 
 put-pointer-requires : tie.Need-put-pointer-requires
 put-pointer-requires c κs = search needs
 
 cast-result : tie.Need-cast-result
-cast-result c = omega (arith, c .before .before .before .before .slice-known3 .given (getD (c .before .before .before .before .before .before .before .args .image .now) 25 0))
+cast-result c = omega (arith, c .before .before .before .before .before .slice-known3 .given (getD (c .before .before .before .before .before .before .before .before .args .image .now) 25 0))
 
 mul-result : tie.Need-mul-result
-mul-result c = omega (arith, c .before .before .before .before .slice-known3 .given (getD (c .before .before .before .before .before .before .before .args .image .now) 25 0))
+mul-result c = omega (arith, c .before .before .before .before .before .slice-known3 .given (getD (c .before .before .before .before .before .before .before .before .args .image .now) 25 0))
 
 same-length : tie.Need-same-length
 same-length c = search needs
 
 returns : tie.Need-returns
-returns c = plain-given _ (c .before .before .before .before .before .before .before .pre .0) _ _ (c .before .before .before .before .before .before .before .pre .1) (c .before .before .put-pointer .ensures)
+returns c = plain-given _ (c .before .before .before .before .before .before .before .before .pre .0) _ _ _ (c .before .before .before .before .before .before .before .before .pre .1) (c .before .before .before .before .wrapping-add-u8 .ensures) (c .before .before .put-pointer .ensures)
 
 pub plain-read-spec : {M : Type 1} → statement M
 plain-read-spec =
@@ -40,7 +40,7 @@ plain-read-spec =
     slice-read-a
     cast-at
     slice-read-value
-    add-put-pointer
+    wrapping-add-u8-requires
     put-pointer-requires
     cast-result
     mul-result

@@ -1,7 +1,7 @@
 -- `controller::in_place::plain_written` meets its contract.
 use Prim.Native.Nat.{_<_}
 use native.Mathlib.Omega.{arith}
-use Rattle.controller.proofs.Steps.{length-is, plain-below, plain-written}
+use Rattle.controller.proofs.Steps.{length-is, plain-written}
 use borrow.Author.Needs.{needs}
 use Rattle.controller.proofs.in_place.plain_written.Statement.{statement}
 use Rattle.controller.proofs.in_place.plain_written.Tie as tie
@@ -15,8 +15,8 @@ slice-read-a c = omega (arith, length-is _ (c .before .before .pre .0))
 put-register-requires : tie.Need-put-register-requires
 put-register-requires c κs = search needs
 
-add-put-pointer : tie.Need-add-put-pointer
-add-put-pointer c = omega (arith, plain-below _ (c .before .before .before .before .before .before .pre .0) (c .before .before .before .before .before .before .pre .1))
+wrapping-add-u8-requires : tie.Need-wrapping-add-u8-requires
+wrapping-add-u8-requires c κs = search needs
 
 put-pointer-requires : tie.Need-put-pointer-requires
 put-pointer-requires c κs = search needs
@@ -25,7 +25,7 @@ same-length : tie.Need-same-length
 same-length c = search needs
 
 returns : tie.Need-returns
-returns c = plain-written _ (c .before .before .before .before .before .before .before .before .before .before .pre .0) _ _ _ (c .before .before .before .before .before .before .before .before .before .before .pre .1) (byte-fits (c .before .before .before .before .before .before .before .before .before .before)) (c .before .before .before .before .before .before .put-register .ensures) (c .before .before .put-pointer .ensures)
+returns c = plain-written _ (c .before .before .before .before .before .before .before .before .before .before .before .pre .0) _ _ _ _ (c .before .before .before .before .before .before .before .before .before .before .before .pre .1) (byte-fits (c .before .before .before .before .before .before .before .before .before .before .before)) (c .before .before .before .before .before .before .before .put-register .ensures) (c .before .before .before .before .wrapping-add-u8 .ensures) (c .before .before .put-pointer .ensures)
 
 pub plain-written-spec : {M : Type 1} → statement M
 plain-written-spec =
@@ -33,7 +33,7 @@ plain-written-spec =
     (tie.spec
     slice-read-a
     put-register-requires
-    add-put-pointer
+    wrapping-add-u8-requires
     put-pointer-requires
     same-length
     returns)
