@@ -7,10 +7,11 @@ use mathlib.Core.Bool.{true, false, not}
 use mathlib.Core.List.{List, [], _∷_, _++_}
 use mathlib.Core.Logic.{_⊎_, inl, inr, ⊎-elim}
 use Prim.Native.Nat.{ℕ}
-use Rattle.chip.specs.Choice.{either}
-use Rattle.chip.specs.State.{fresh}
+use Rattle.chip.specs.Choice.{pick, both, either}
+use Rattle.chip.specs.State.{fresh, setPointer}
 use Rattle.chip.specs.Interrupts.{interrupted, isInterrupt, ends, isEnding, busy}
-use Rattle.chip.specs.Calls.{Call, Outcome, step}
+use Rattle.chip.specs.Registers as R
+use Rattle.chip.specs.Calls.{Call, Outcome, pointer, auxiliary, register, isGood, carried, step}
 use Rattle.chip.specs.declared.State.{State}
 use Rattle.chip.specs.declared.Wire.{Wire}
 use Rattle.chip.specs.declared.Answer.the-variants.{Done}
@@ -19,7 +20,7 @@ use Rattle.chip.specs.declared.Pending.the-variants.{Ending}
 use Rattle.chip.proofs.Cases.{by-test, either-last}
 use Rattle.reached.specs.Sound.{Sound}
 use Rattle.reached.proofs.Facts.{facts}
-use Rattle.unread.specs.Status.{isReset, isDisconnect, raised}
+use Rattle.unread.specs.Status.{isReset, isDisconnect, readsAt, raised}
 use Rattle.unread.specs.History.{run}
 use Rattle.unread.specs.Because.{Because}
 use Rattle.unread.specs.Codes as C
@@ -33,7 +34,7 @@ use Rattle.unread.proofs.Codes.{run-more, by-calls}
 use Rattle.unread.proofs.Ending.{ending-is-still}
 use Rattle.unread.proofs.Placed.{ending-placed}
 use Rattle.belongs.specs.StillBus.{isPending}
-use Rattle.belongs.specs.Belongs.{Causes, at-once, to-come, Owes, unread, coming, Undisturbed, StatusBelongs}
+use Rattle.belongs.specs.Belongs.{flags, Causes, at-once, to-come, Owes, unread, coming, Undisturbed, StatusBelongs}
 use Rattle.belongs.proofs.StillBus.{calm, unread-still, lived}
 use Rattle.belongs.proofs.Unmoved.{unmoved}
 
@@ -125,9 +126,27 @@ read-clears s o n (read b a k q) = ap isInterrupt q ∙ cleared-int (s .status .
 pub owed-belongs : (l : List Call) → Belongs l
 owed-belongs = by-calls Belongs nothing-owed one-more
 
+-- the driver's own two calls
+pointed : (s : State) → step (pointer 1 0x17) s .state ≡ setPointer 0x17 s
+unfolding step carried isGood R.pointerSet both pick
+pointed s = refl
+
+hears : (s : State) → busy s ≡ false → step (register 0 0) (setPointer 0x17 s) .answer ≡ Done (s .status .code)
+unfolding readsAt isGood both busy
+hears s n =
+    read-gives (setPointer 0x17 s) (step (register 0 0) (setPointer 0x17 s)) n (status-read (register 0 0) (setPointer 0x17 s) refl)
+
+shows : (s : State) → step auxiliary s .answer ≡ Done (flags s)
+unfolding step carried isGood R.auxiliaryRead pick
+shows s = refl
+
 pub status-belongs : StatusBelongs step
 status-belongs =
     record {
+      shown = λ l. shows (run step l fresh);
+      heard = λ l i.
+          ap (λ (t : State). step (register 0 0) t .answer) (pointed (run step l fresh))
+          ∙ hears (run step l fresh) (facts (lived l) .int-not-busy i);
       given = λ l c i r.
           let s : State = run step l fresh in
           let n : busy s ≡ false = facts (lived l) .int-not-busy i in

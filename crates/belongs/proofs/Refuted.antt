@@ -1,6 +1,7 @@
 -- The promise refuses the wrong steps of specs/Wrong.antt: `Law wrong → ⊥`, each at calls from a fresh controller.
 --   late-moves intrudes-moves swallows-taken ticks-moves drops-moves   by StillBus
 --   late-lies intrudes-lies swallows-lies eager-lies hangs-up-lies     by StatusBelongs
+--   hides-silent misleads-unheard                                      by StatusBelongs
 --   late-answered                                                      by TimedOutIsTrue
 --   late-wound   what a driver then reads of the disk that has answered: connected, and 42h
 use mathlib.Core.Path.{_≡_, refl, ap}
@@ -27,7 +28,7 @@ use Rattle.unread.proofs.Refuted.{callsEnding}
 use Rattle.belongs.specs.StillBus.{StillBus}
 use Rattle.belongs.specs.Belongs.{Causes, at-once, to-come, StatusBelongs}
 use Rattle.belongs.specs.TimedOut.{TimedOutIsTrue}
-use Rattle.belongs.specs.Wrong.{late, intrudes, swallows, ticks, eager, hangsUp}
+use Rattle.belongs.specs.Wrong.{late, intrudes, swallows, ticks, eager, hangsUp, hides, misleads}
 
 -- a timeout of 1, a Select, and one unit passes: 42h, unread
 abbrev callsTimedOut : List Call
@@ -105,6 +106,14 @@ pub hangs-up-lies : StatusBelongs hangsUp → ⊥
 unfolding everything run hangsUp readsAt
 hangs-up-lies h =
     clash refl (ap (λ (w : Wire). isDisconnected (w .connection)) (h .given (callsSelected ++ (pointer 1 0x17 ∷ [])) (register 0 0) refl refl .bus))
+
+pub hides-silent : StatusBelongs hides → ⊥
+unfolding everything run hides instead
+hides-silent h = let z : _≡_ {A = ℕ} 0 0x80 = ap value (h .shown callsSelected) in omega arith
+
+pub misleads-unheard : StatusBelongs misleads → ⊥
+unfolding everything run misleads
+misleads-unheard h = let z : _≡_ {A = ℕ} 0 0x11 = ap value (h .heard callsSelected refl) in omega arith
 
 pub late-answered : TimedOutIsTrue late → ⊥
 unfolding everything run late instead

@@ -17,13 +17,13 @@ use Rattle.chip.proofs.Cases.{by-case}
 use Rattle.unread.specs.Status.{isReset, isCommand, isAnswer, raised}
 use Rattle.unread.specs.History.{run}
 use Rattle.unread.specs.Codes as C
-use Rattle.unread.specs.Codes.{Raises, Since}
+use Rattle.unread.specs.Codes.{Raises, Since, Selects}
 use Rattle.unread.proofs.Choosing.{clash}
 use Rattle.unread.proofs.Unread.{raised-from-quiet, raised-sets-int}
 use Rattle.unread.proofs.Because.{raised-because}
 use Rattle.unread.proofs.Codes.{run-more, since-map, time-ends-nothing, codes-only-by}
 use Rattle.belongs.specs.Belongs.{Causes, at-once, to-come, unread, Undisturbed}
-use Rattle.belongs.specs.TimedOut.{Selects, TurnedAway, TimedOutIsTrue}
+use Rattle.belongs.specs.TimedOut.{TurnedAway, TimedOutIsTrue}
 use Rattle.belongs.proofs.Belongs.{owed-belongs}
 
 -- a Time that raises a code while selecting leaves the controller Disconnected

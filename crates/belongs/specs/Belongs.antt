@@ -1,19 +1,22 @@
 -- The promise. The status that a driver reads, with INT set, belongs to what last happened: over every list of calls from a fresh controller,
 -- the read gives one code, one call is the cause of that code, and between that call and the read no bus event changed the controller.
 --   StatusBelongs f     the promise, of a step function
+--   flags s             auxiliary status of s
 --   Causes c s k        the call c, made in s, is the cause of the code k, by the table `Because` (room unread): it raises k, or it begins an ending
 --                       that has k to come
 --   Owes k s            the code k is owed: it is to come at the end of an ending, or it stands at 17h and nobody has read it
---   Undisturbed f k c s   the call c, made in s, finds the code k owed and leaves everything that it speaks of as it was
+--   Undisturbed f k c s   the call c, made in s, finds the code k owed, and disturbs neither the bus nor who is connected
 --   Gives f k c s       the call c, made in s, is answered with the code k, and leaves bus and command as they were
 use mathlib.Core.Path.{_≡_}
 use mathlib.Core.Bool.{true, not}
 use mathlib.Core.List.{List}
 use Prim.Native.Nat.{ℕ}
 use Rattle.chip.specs.Choice.{either}
+use Rattle.chip.specs.Lines.{packed}
 use Rattle.chip.specs.State.{fresh}
-use Rattle.chip.specs.Interrupts.{interrupted, ends}
-use Rattle.chip.specs.Calls.{Call, Outcome}
+use Rattle.chip.specs.Interrupts.{interrupted, ends, busy}
+use Rattle.chip.specs.TransferInfo.{dbr}
+use Rattle.chip.specs.Calls.{Call, Outcome, pointer, auxiliary, register}
 use Rattle.chip.specs.declared.State.{State}
 use Rattle.chip.specs.declared.Answer.the-variants.{Done}
 use Rattle.chip.specs.declared.Pending.the-variants.{Ending}
@@ -22,6 +25,10 @@ use Rattle.unread.specs.History.{run}
 use Rattle.unread.specs.Because.{Because, Begins}
 use Rattle.unread.specs.Codes.{Since}
 use Rattle.unread.specs.Ending.{isEvent, Untouched}
+
+-- "Auxiliary status is packed so: bit 7 INT, 6 LCI, 5 BSY .. 1 PE, 0 DBR"
+abbrev pub flags : State → ℕ
+flags s = packed (interrupted s) (s .status .lci) (busy s) (s .status .pe) (dbr s)
 
 -- the read of an ending's last byte raises a code too, but it is not its cause
 pub data Causes (c : Call) (s : State) (k : ℕ) : Type 0 where
@@ -48,7 +55,12 @@ pub record Gives (f : Call → State → Outcome) (k : ℕ) (c : Call) (s : Stat
   pub command : f c s .state .transfer ≡ s .transfer
 
 pub record StatusBelongs (f : Call → State → Outcome) : Type 0 where
-  -- a read of 17h with INT set gives the code that stands there
+  -- a driver sees INT, and the other flags, in auxiliary status as they are
+  pub shown : (l : List Call) → f auxiliary (run f l fresh) .answer ≡ Done (flags (run f l fresh))
+  -- with INT set it sets the pointer to 17h, reads, and hears the code that stands there
+  pub heard : (l : List Call) → interrupted (run f l fresh) ≡ true
+      → f (register 0 0) (f (pointer 1 0x17) (run f l fresh) .state) .answer ≡ Done (run f l fresh .status .code)
+  -- so does every read of 17h with INT set, and it leaves the bus alone
   pub given : (l : List Call) (c : Call) → interrupted (run f l fresh) ≡ true → readsAt 0x17 c (run f l fresh) ≡ true
       → Gives f (run f l fresh .status .code) c (run f l fresh)
   -- one call is its cause, and since then nothing disturbed it

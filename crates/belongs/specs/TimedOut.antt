@@ -1,7 +1,6 @@
 -- "Selection timed out" is never read of a disk that answered: what the promise says of the code 42h, over every list of calls from a fresh
 -- controller.
 --   TimedOutIsTrue f   wherever 42h stands unread, nobody is connected, and since that selection began no Answer was taken
---   Selects f c s      the call c, made in s, begins a selection
 --   TurnedAway f c s   the call c, made in s, is no Answer, or it is refused
 use mathlib.Core.Path.{_≡_}
 use mathlib.Core.Bool.{true}
@@ -10,14 +9,11 @@ use Rattle.chip.specs.State.{fresh}
 use Rattle.chip.specs.Interrupts.{interrupted}
 use Rattle.chip.specs.Calls.{Call, Outcome}
 use Rattle.chip.specs.declared.State.{State}
-use Rattle.chip.specs.declared.Connection.the-variants.{Disconnected, Selecting}
-use Rattle.unread.specs.Status.{isSelection, isAnswer}
+use Rattle.chip.specs.declared.Connection.the-variants.{Disconnected}
+use Rattle.unread.specs.Status.{isAnswer}
 use Rattle.unread.specs.History.{run}
-use Rattle.unread.specs.Codes.{Since}
+use Rattle.unread.specs.Codes.{Since, Selects}
 use Rattle.unread.specs.Ending.{isRefusal}
-
-abbrev pub Selects : (Call → State → Outcome) → Call → State → Type 0
-Selects f c s = (isSelection c s ≡ true) × (f c s .state .wire .connection ≡ Selecting)
 
 -- an Answer, if one came, was refused
 abbrev pub TurnedAway : (Call → State → Outcome) → Call → State → Type 0

@@ -5,12 +5,14 @@
 --   ticks      with a status unread time adds up
 --   eager      with a status unread a Select is taken
 --   hangsUp    the read of a status gives it and disconnects
+--   hides      auxiliary status shows 0 while a status is unread
+--   misleads   the pointer set to 17h goes to 16h
 -- `drops` of room unread, a Time that forgets an ending with its code, is refuted here too.
 use mathlib.Core.Bool.{Bool}
 use Prim.Native.Nat.{ℕ, _+_}
 use lib.Dec.{eqb}
 use Rattle.chip.specs.Choice.{pick, both}
-use Rattle.chip.specs.State.{setConnection, setElapsed}
+use Rattle.chip.specs.State.{setPointer, setConnection, setElapsed}
 use Rattle.chip.specs.Interrupts.{interrupted}
 use Rattle.chip.specs.Commands.{isDisconnected, selecting}
 use Rattle.chip.specs.Calls.{Call, Outcome, kind, step}
@@ -51,5 +53,21 @@ hangsUp c s =
     record {
       answer = step c s .answer;
       state = pick (both (readsAt 0x17 c s) (interrupted s)) (setConnection Disconnected (step c s .state)) (step c s .state);
+      lent = step c s .lent;
+    }
+
+unfoldable pub hides : Call → State → Outcome
+unfolding instead
+hides = instead (overUnread 1) (λ s. s)
+
+-- the pointer at 17h, one back
+abbrev astray : State → State
+astray s = pick (eqb (s .status .pointer) 0x17) (setPointer 0x16 s) s
+
+unfoldable pub misleads : Call → State → Outcome
+misleads c s =
+    record {
+      answer = step c s .answer;
+      state = pick (eqb (kind c) 0) (astray (step c s .state)) (step c s .state);
       lent = step c s .lent;
     }

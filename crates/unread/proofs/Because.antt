@@ -110,7 +110,7 @@ reasoned : {c : Call} {s : State} {z : Standing} → Tells c s z → isReset c s
     → isInterrupt (z .pending) ≡ true → Because c s (z .code)
 reasoned (silent a) r i j = clash j i
 reasoned (moves x) r i j = clash j i
-reasoned (selects e q n) r i j = clash j i
+reasoned (selects e q x b n) r i j = clash j i
 reasoned (settles {q = q} h) r i j = clash j (plain-int q (settles-plain h))
 reasoned (begins u h x) r i j = clash j refl
 reasoned (raises i h x) r i' j = h
@@ -120,7 +120,7 @@ reasoned (resets e x) r i j = clash e r
 begun : {c : Call} {s : State} {z : Standing} (j : ℕ) → Tells c s z → z .pending ≡ Ending j → (s .status .pending ≡ Ending j) ⊎ Begins c s j
 begun j (silent a) e = inl e
 begun j (moves x) e = inl e
-begun j (selects f q n) e = inl e
+begun j (selects f q x b n) e = inl e
 begun j (settles h) e = clash (settles-plain h) (ap isPlain e)
 begun {c} {s} j (begins {k = k} u h x) e = inr (rw (code-of e) at h)
   where

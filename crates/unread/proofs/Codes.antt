@@ -17,7 +17,7 @@ use lib.Dec.{eqb, leb}
 use Rattle.chip.specs.Choice.{pick, both, either}
 use Rattle.chip.specs.State.{fresh}
 use Rattle.chip.specs.Phases.{phaseOf, phaseNumber}
-use Rattle.chip.specs.Interrupts.{unread, isEnding, isRunning}
+use Rattle.chip.specs.Interrupts.{interrupted, isInterrupt, busy, unread, isEnding, isRunning}
 use Rattle.chip.specs.Commands.{abortPhase}
 use Rattle.chip.specs.Calls.{Call, Outcome, time, answer, reselection, request, free, step}
 use Rattle.chip.specs.declared.State.{State}
@@ -31,7 +31,7 @@ use Rattle.unread.specs.History.{run}
 use Rattle.unread.specs.Because as B
 use Rattle.unread.specs.Because.{Brings, Begins, ReadsOut, Because, isIdle}
 use Rattle.unread.specs.Codes as C
-use Rattle.unread.specs.Codes.{Raises, Since, EndingsBegun, Unanswered, SelectionsBegun, CodesOnlyBy}
+use Rattle.unread.specs.Codes.{Raises, Since, Selects, EndingsBegun, Unanswered, SelectionsBegun, CodesOnlyBy}
 use Rattle.unread.proofs.Choosing.{clash}
 use Rattle.unread.proofs.Telling.{settles-apart, Standing, standing, isSelecting, Tells, silent, moves, selects, settles, begins, raises, reads, resets, gone, there}
 use Rattle.unread.proofs.Told.{told}
@@ -78,14 +78,21 @@ is-selecting Connected e = clash e refl
 abbrev Sound : Standing → Type 0
 Sound z = (z .pending ≡ Nothing) × (isRunning (z .running) ≡ true)
 
+-- a call that begins a selection, as it finds the controller
+record Beginning (c : Call) (s : State) : Type 0 where
+  command : isSelection c s ≡ true
+  apart : s .wire .connection ≡ Disconnected
+  idle : busy s ≡ false
+  all-told : interrupted s ≡ false
+
 -- a call that leaves a selection went on with a sound one, or began it
 course : {c : Call} {s : State} {z : Standing} → Tells c s z → (s .wire .connection ≡ Selecting → Sound (standing s))
     → isSelecting (z .connection) ≡ true
-    → Sound z × (((s .wire .connection ≡ Selecting) × (isAnswer c ≡ false)) ⊎ (isSelection c s ≡ true))
+    → Sound z × (((s .wire .connection ≡ Selecting) × (isAnswer c ≡ false)) ⊎ Beginning c s)
 course {s = s} (silent a) h e =
     let x = is-selecting (s .wire .connection) e in (h x, inl (x, a (h x .0)))
 course (moves f) h e = clash e f
-course (selects f q r) h e = ((q, r), inr f)
+course (selects f q x b r) h e = ((q, r), inr (record { command = f; apart = x; idle = b; all-told = ap isInterrupt q }))
 course (settles f) h e = clash e (settles-apart f)
 course (begins q b f) h e = clash e f
 course (raises i b (gone f)) h e = clash e f
@@ -98,13 +105,16 @@ course (resets d f) h e = clash e f
 abbrev Selected : List Call → Type 0
 Selected l = run step l fresh .wire .connection ≡ Selecting → Sound (standing (run step l fresh)) × Unanswered step l
 
+began : {c : Call} {s : State} → Beginning c s → step c s .state .wire .connection ≡ Selecting → Selects step c s
+began b x = record { command = b .command; apart = b .apart; idle = b .idle; all-told = b .all-told; selecting = x }
+
 one-more-selected : (l : List Call) (c : Call) → Selected l → Selected (l ++ (c ∷ []))
 one-more-selected l c h e =
     let s : State = run step l fresh in
     let r : run step (l ++ (c ∷ [])) fresh ≡ step c s .state = run-more step l c fresh in
     let x : step c s .state .wire .connection ≡ Selecting = sym (ap (λ (t : State). t .wire .connection) r) ∙ e in
     let k = course (told c s .tells) (λ y. h y .0) (ap isSelecting x) in
-    (rw r (k .0), ⊎-elim (λ y. C.still l c (h (y .0) .1) y) (λ y. C.now l c (y, x)) (k .1))
+    (rw r (k .0), ⊎-elim (λ y. C.still l c (h (y .0) .1) y) (λ y. C.now l c (began y x)) (k .1))
 
 pub selections-begun : SelectionsBegun step
 unfolding run

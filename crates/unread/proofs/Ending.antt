@@ -133,7 +133,7 @@ module _ {c : Call} {s : State} (e : ends s ≡ true) (r : isReset c s ≡ false
   pending-stays : {z : Standing} → Tells c s z → z .pending ≡ s .status .pending
   pending-stays (silent a) = refl
   pending-stays (moves x) = refl
-  pending-stays (selects f q m) = refl
+  pending-stays (selects f q x b m) = refl
   pending-stays (settles (disconnects f i)) = clash f d
   pending-stays (settles (reads-out q)) = clash e (ap isEnding q)
   pending-stays (settles (has-read q l)) = absurd (n l)

@@ -94,7 +94,7 @@ calm-leads : {c : Call} {s : State} {z : Standing} → Tells c s z → isReset c
 unfolding both pick
 calm-leads {s = s} (silent a) r n d e = rw (same-begun (s .status .pending)) (still refl)
 calm-leads {s = s} (moves x) r n d e = rw (same-begun (s .status .pending)) (still refl)
-calm-leads {s = s} (selects f q m) r n d e = rw (same-begun (s .status .pending)) (still refl)
+calm-leads {s = s} (selects f q x b m) r n d e = rw (same-begun (s .status .pending)) (still refl)
 calm-leads {s = s} (settles (disconnects f i)) r n d e = still (sym (owes-nothing (s .status .pending) i (rw f at d)))
 calm-leads (settles (reads-out q)) r n d e = still (ap owedBy (sym q))
 calm-leads (settles (has-read q l)) r n d e = still (ap owedBy (sym q))

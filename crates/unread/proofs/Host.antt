@@ -43,9 +43,9 @@ use Rattle.chip.specs.declared.Running.the-variants.{Idle}
 use Rattle.unread.specs.Status.{isCommand, isReset, isSelection, isDisconnect, isAnswer, readsAt}
 use Rattle.unread.specs.Because as B
 use Rattle.unread.specs.Because.{Quiet, ReadsLast}
-use Rattle.chip.proofs.Cases.{by-pick, by-case, by-test, both-first, both-second, either-first, either-rest}
+use Rattle.chip.proofs.Cases.{by-pick, by-case, by-test, both-first, both-second, either-first, either-rest, either-second}
 use Rattle.unread.proofs.Choosing.{clash, not-first, only-first, one-or, one-of}
-use Rattle.unread.proofs.Telling.{connected-apart, Standing, standing, isSelecting, Tells, ToldState, so, ToldReply, disconnects, has-read, silent, moves, selects, settles, raises, reads, resets, gone, there, ended, brought, quiet-of, is-connected}
+use Rattle.unread.proofs.Telling.{connected-apart, Standing, standing, isSelecting, Tells, ToldState, so, ToldReply, disconnects, has-read, silent, moves, selects, settles, raises, reads, resets, gone, there, ended, brought, quiet-of, is-connected, is-disconnected}
 
 -- commands
 
@@ -81,6 +81,22 @@ select-idle k s w = each-select (λ (j : ℕ). isRefusedBusy j s ≡ false → b
 transfer-selects : (k : ℕ) → either (eqb k 0x08) (eqb k 0x09) ≡ true → isSelect k ≡ true
 unfolding isSelect either
 transfer-selects k w = one-of (λ (j : ℕ). isSelect j ≡ true) 0x08 0x09 k w refl refl
+
+-- a valid one finds the controller Disconnected, or connected, where 08 and 09 are the resume
+select-apart : (k : ℕ) (s : State) → isSelect k ≡ true → isValid k s ≡ true → isConnected (s .wire .connection) ≡ false
+    → s .wire .connection ≡ Disconnected
+unfolding isValid entryOf table
+select-apart k s w =
+    each-select (λ (j : ℕ). isValid j s ≡ true → isConnected (s .wire .connection) ≡ false → s .wire .connection ≡ Disconnected) k w
+    (λ v n. is-disconnected _ (both-first _ _ v)) (λ v n. is-disconnected _ (both-first _ _ v))
+    (λ v n. is-disconnected _ (either-second (isConnected (s .wire .connection)) _ (both-first _ _ v) n))
+    (λ v n. is-disconnected _ (either-second (isConnected (s .wire .connection)) _ (both-first _ _ v) n))
+
+only-apart : (k : ℕ) (s : State) → either (eqb k 0x06) (eqb k 0x07) ≡ true → isValid k s ≡ true → s .wire .connection ≡ Disconnected
+unfolding isValid entryOf table
+only-apart k s w =
+    one-of (λ (j : ℕ). isValid j s ≡ true → s .wire .connection ≡ Disconnected) 0x06 0x07 k w (λ v. is-disconnected _ (both-first _ _ v))
+    (λ v. is-disconnected _ (both-first _ _ v))
 
 -- no command but Reset and Abort is valid while selecting
 
@@ -163,17 +179,17 @@ module _
     select-quiet w f = quiet-of _ i (not-busy-ends s (select-idle (codeOf b) s w f))
 
     transferring-tells : (r : Running) → isRunning r ≡ true → either (eqb (codeOf b) 0x08) (eqb (codeOf b) 0x09) ≡ true
-        → isRefusedBusy (codeOf b) s ≡ false → Told (transferring r (accepted b s))
+        → isRefusedBusy (codeOf b) s ≡ false → isValid (codeOf b) s ≡ true → Told (transferring r (accepted b s))
     unfolding transferring resumed accepted selecting fromDisconnected loaded unread both
-    transferring-tells r n w f =
+    transferring-tells r n w f u =
         let v : isSelect (codeOf b) ≡ true = transfer-selects (codeOf b) w in
         let q : Quiet s = select-quiet v f in
         by-case Told _
         (λ x. by-case Told _
-        (λ h. ended _ refl (connected-apart (s .wire .connection) x) q (λ u. clash u refl)
-        (λ u. B.resumes (codeOf b) own-code w q (not-busy-runs s (select-idle (codeOf b) s v f)) (is-connected _ x) (eqb-true _ _ h)))
+        (λ h. ended _ refl (connected-apart (s .wire .connection) x) q (λ z. clash z refl)
+        (λ z. B.resumes (codeOf b) own-code w q (not-busy-runs s (select-idle (codeOf b) s v f)) (is-connected _ x) (eqb-true _ _ h)))
         (λ h. so (moves (connected-apart (s .wire .connection) x))))
-        (λ x. so (selects (is-selection v) q n))
+        (λ x. so (selects (is-selection v) q (select-apart (codeOf b) s v u x) (select-idle (codeOf b) s v f) n))
 
     carried-tells : (single : Bool) → eqb (codeOf b) 0x00 ≡ false → isRefusedBusy (codeOf b) s ≡ false → isValid (codeOf b) s ≡ true
         → Told (carriedOut (codeOf b) single (accepted b s))
@@ -184,10 +200,12 @@ module _
         by-pick Told _ (so (moves z))
         (by-pick Told _ (so (moves z))
         (by-case Told _ (λ e. so (settles (disconnects (is-disconnect e v) i)))
-        (λ n4. by-case Told _ (λ e. let w : isSelect (codeOf b) ≡ true = rw e in so (selects (is-selection w) (select-quiet w r) refl))
-        (λ n6. by-case Told _ (λ e. let w : isSelect (codeOf b) ≡ true = rw (n6, e) in so (selects (is-selection w) (select-quiet w r) refl))
-        (λ n7. by-case Told _ (λ e. transferring-tells _ refl (rw e) r)
-        (λ n8. by-case Told _ (λ e. transferring-tells _ refl (rw (n8, e)) r)
+        (λ n4. by-case Told _ (λ e. let w : isSelect (codeOf b) ≡ true = rw e in
+        so (selects (is-selection w) (select-quiet w r) (only-apart (codeOf b) s (rw e) v) (select-idle (codeOf b) s w r) refl))
+        (λ n6. by-case Told _ (λ e. let w : isSelect (codeOf b) ≡ true = rw (n6, e) in
+        so (selects (is-selection w) (select-quiet w r) (only-apart (codeOf b) s (rw (n6, e)) v) (select-idle (codeOf b) s w r) refl))
+        (λ n7. by-case Told _ (λ e. transferring-tells _ refl (rw e) r v)
+        (λ n8. by-case Told _ (λ e. transferring-tells _ refl (rw (n8, e)) r v)
         (λ n9. by-pick Told _ (so (moves z)) (so (moves z))))))))))
 
   is-reset : eqb (codeOf b) 0x00 ≡ true → isReset (register m b) s ≡ true

@@ -128,7 +128,7 @@ callsAnswered = pointer 1 0x02 ∷ register 1 0x01 ∷ pointer 1 0x18 ∷ regist
 
 answered-since : Unanswered deaf callsAnswered → ⊥
 unfolding isSelection isCommand either
-answered-since = since-last auxiliary (λ b. clash (b .0) refl) (λ n. clash refl (n .1))
+answered-since = since-last auxiliary (λ b. clash (b .command) refl) (λ n. clash refl (n .1))
 
 pub deaf-refused : SelectionsBegun deaf → ⊥
 unfolding everything deaf W.changed H.run

@@ -11,12 +11,12 @@
 --   quiet-of           neither INT nor an ending: nothing is pending
 --   isPlain isSelecting   neither INT nor a code pending; a selection runs
 --   plain-int cleared-int  .. no INT then, nor after a read of 17h
---   is-connected connected-apart   the test for connected
+--   is-connected connected-apart is-disconnected   the tests for connected and Disconnected
 use mathlib.Core.Path.{_≡_, refl, ap}
 use mathlib.Core.Bool.{Bool, true, false}
 use Prim.Native.Nat.{ℕ}
-use Rattle.chip.specs.Interrupts.{interrupted, isInterrupt, isEnding, withoutInterrupt, isRunning, endingWith, raise, outgoingDropped, unread, unlessInterrupt}
-use Rattle.chip.specs.Commands.{isConnected}
+use Rattle.chip.specs.Interrupts.{interrupted, isInterrupt, isEnding, withoutInterrupt, isRunning, busy, endingWith, raise, outgoingDropped, unread, unlessInterrupt}
+use Rattle.chip.specs.Commands.{isConnected, isDisconnected}
 use Rattle.chip.specs.Calls.{Call}
 use Rattle.chip.specs.declared.State.{State}
 use Rattle.chip.specs.declared.Reply.{Reply}
@@ -71,7 +71,7 @@ pub data Tells (c : Call) (s : State) : Standing → Type 0 where
   moves : {x : Connection} {r : Running} → isSelecting x ≡ false
       → Tells c s (record { code = s .status .code; pending = s .status .pending; connection = x; running = r })
   -- a selection begins
-  selects : {r : Running} → isSelection c s ≡ true → Quiet s → isRunning r ≡ true
+  selects : {r : Running} → isSelection c s ≡ true → Quiet s → s .wire .connection ≡ Disconnected → busy s ≡ false → isRunning r ≡ true
       → Tells c s (record { code = s .status .code; pending = s .status .pending; connection = Selecting; running = r })
   -- what was pending goes, or bytes are to be read out with no code to come
   settles : {q : Pending} {x : Connection} {r : Running} → Settles c s q x
@@ -142,6 +142,12 @@ is-connected Disconnected e = clash e refl
 is-connected Selecting e = clash e refl
 is-connected Waiting e = clash e refl
 is-connected Connected e = refl
+
+pub is-disconnected : (x : Connection) → isDisconnected x ≡ true → x ≡ Disconnected
+is-disconnected Disconnected e = refl
+is-disconnected Selecting e = clash e refl
+is-disconnected Waiting e = clash e refl
+is-disconnected Connected e = clash e refl
 
 pub connected-apart : (x : Connection) → isConnected x ≡ true → isSelecting x ≡ false
 connected-apart x e = ap isSelecting (is-connected x e)

@@ -2,7 +2,7 @@
 --   unread-status-kept           a status nobody has read is replaced only by Reset
 --   code-moves-only-by-raising   the code at 17h changes only by raising
 --   int-pending                  INT, in the words of what is pending
---   raised-anew raised-code raised-reset   three grounds on which a call raised a code
+--   raised-anew raised-reset   two grounds on which a call raised a code
 --   raised-from-quiet raised-sets-int   what a call that raised a code found, and left
 use mathlib.Core.Path.{_≡_, refl, ap}
 use mathlib.Core.Logic.{_↔_}
@@ -26,7 +26,7 @@ module _ {c : Call} {s : State} where
   code-stays : {z : Standing} → Tells c s z → interrupted s ≡ true → isReset c s ≡ false → z .code ≡ s .status .code
   code-stays (silent a) i r = refl
   code-stays (moves x) i r = refl
-  code-stays (selects e q n) i r = refl
+  code-stays (selects e q x b n) i r = refl
   code-stays (settles h) i r = refl
   code-stays (begins u h x) i r = refl
   code-stays (raises j h x) i r = clash i j
@@ -36,7 +36,7 @@ module _ {c : Call} {s : State} where
   int-stays : {z : Standing} → Tells c s z → interrupted s ≡ true → readsAt 0x17 c s ≡ false → isInterrupt (z .pending) ≡ true
   int-stays (silent a) i r = i
   int-stays (moves x) i r = i
-  int-stays (selects e q n) i r = i
+  int-stays (selects e q x b n) i r = i
   int-stays (settles h) i r = clash i (settles-quiet h)
   int-stays (begins u h x) i r = clash i (rw u)
   int-stays (raises j h x) i r = refl
@@ -46,7 +46,7 @@ module _ {c : Call} {s : State} where
   int-with : {z : Standing} → Tells c s z → (z .code ≡ s .status .code → ⊥) → isInterrupt (z .pending) ≡ true
   int-with (silent a) n = absurd (n refl)
   int-with (moves x) n = absurd (n refl)
-  int-with (selects e q m) n = absurd (n refl)
+  int-with (selects e q x b m) n = absurd (n refl)
   int-with (settles h) n = absurd (n refl)
   int-with (begins u h x) n = absurd (n refl)
   int-with (raises j h x) n = refl
@@ -57,10 +57,6 @@ module _ (c : Call) (s t : State) (i : interrupted t ≡ true) where
   pub raised-anew : interrupted s ≡ false → raised c s t ≡ true
   unfolding raised both either
   raised-anew j = rw (i, j)
-
-  pub raised-code : (t .status .code ≡ s .status .code → ⊥) → raised c s t ≡ true
-  unfolding raised both either
-  raised-code n = by-test (interrupted s) (λ j. rw (i, j, ne-eqb _ _ n)) (λ j. rw (i, j))
 
   pub raised-reset : isReset c s ≡ true → raised c s t ≡ true
   unfolding raised both either
@@ -102,9 +98,4 @@ unfolding raised
 raised-sets-int c s t e = both-first _ _ e
 
 pub code-moves-only-by-raising : CodeMovesOnlyByRaising step
-code-moves-only-by-raising =
-    record {
-      int-with-code = λ c s. int-with (told c s .tells);
-      code-raised = λ c s n. raised-code c s (step c s .state) (int-with (told c s .tells) n) n;
-      int-raised = λ c s j i. raised-anew c s (step c s .state) i j;
-    }
+code-moves-only-by-raising = record { int-with-code = λ c s. int-with (told c s .tells) }

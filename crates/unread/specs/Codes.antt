@@ -2,6 +2,7 @@
 --   Raises f l c k     after the calls l from a fresh state, the call c raises the code k
 --   Since f B N l      some call of l did B, and every later one N (of a call and the state that it was made in)
 --   EndingsBegun f     a pending ending was begun as the table says, and has been pending since
+--   Selects f c s      the call c, made in s, begins a selection: a Select command, Disconnected, with no command running and no status unread
 --   Unanswered f l     a selection began in l, has gone on since, and no Answer came to it
 --   SelectionsBegun f  .. wherever a selection runs
 --   ByFree f l c k     the call c is a Free, or the read that ends the read-out that a Free began
@@ -13,12 +14,12 @@ use mathlib.Core.Logic.{_⊎_}
 use Prim.Native.Nat.{ℕ, _+_}
 use Rattle.chip.specs.State.{fresh}
 use Rattle.chip.specs.Phases.{phaseOf, phaseNumber}
-use Rattle.chip.specs.Interrupts.{unread}
+use Rattle.chip.specs.Interrupts.{interrupted, busy, unread}
 use Rattle.chip.specs.Calls.{Call, Outcome, time, answer, reselection, request, free}
 use Rattle.chip.specs.declared.State.{State}
 use Rattle.chip.specs.declared.Phase.{Phase}
 use Rattle.chip.specs.declared.Pending.the-variants.{Ending}
-use Rattle.chip.specs.declared.Connection.the-variants.{Selecting, Connected}
+use Rattle.chip.specs.declared.Connection.the-variants.{Disconnected, Selecting, Connected}
 use Rattle.unread.specs.Status.{isCommand, isReset, isSelection, isAnswer, raised}
 use Rattle.unread.specs.History.{run}
 use Rattle.unread.specs.Because.{Begins, ReadsOut, isIdle}
@@ -35,10 +36,15 @@ pub record EndingsBegun (f : Call → State → Outcome) : Type 0 where
   pub begun : (l : List Call) (k : ℕ) → run f l fresh .status .pending ≡ Ending k
       → Since f (λ c s. Begins c s k) (λ c s. s .status .pending ≡ Ending k) l
 
+pub record Selects (f : Call → State → Outcome) (c : Call) (s : State) : Type 0 where
+  pub command : isSelection c s ≡ true
+  pub apart : s .wire .connection ≡ Disconnected
+  pub idle : busy s ≡ false
+  pub all-told : interrupted s ≡ false
+  pub selecting : f c s .state .wire .connection ≡ Selecting
+
 abbrev pub Unanswered : (Call → State → Outcome) → List Call → Type 0
-Unanswered f l =
-    Since f (λ c s. (isSelection c s ≡ true) × (f c s .state .wire .connection ≡ Selecting))
-    (λ c s. (s .wire .connection ≡ Selecting) × (isAnswer c ≡ false)) l
+Unanswered f l = Since f (Selects f) (λ c s. (s .wire .connection ≡ Selecting) × (isAnswer c ≡ false)) l
 
 pub record SelectionsBegun (f : Call → State → Outcome) : Type 0 where
   pub begun : (l : List Call) → run f l fresh .wire .connection ≡ Selecting → Unanswered f l

