@@ -1,5 +1,6 @@
 pub mod StillBus
 pub mod Unmoved
 pub mod Belongs
+pub mod Waited
 pub mod TimedOut
 pub mod Refuted

@@ -2,33 +2,36 @@
 --   late-moves intrudes-moves swallows-taken ticks-moves drops-moves   by StillBus
 --   late-lies intrudes-lies swallows-lies eager-lies hangs-up-lies     by StatusBelongs
 --   hides-silent misleads-unheard                                      by StatusBelongs
---   late-answered                                                      by TimedOutIsTrue
+--   late-answered poaches-answered impatient-early                     by TimedOutIsTrue
 --   late-wound   what a driver then reads of the disk that has answered: connected, and 42h
 use mathlib.Core.Path.{_≡_, refl, ap}
 use mathlib.Core.Bool.{false}
 use mathlib.Core.List.{List, [], _∷_, _++_}
-use Prim.Native.Nat.{ℕ}
+use mathlib.Core.Logic.{_⊎_, inl, inr, ⊎-elim}
+use Prim.Native.Nat.{ℕ, _+_, _≤_}
 use native.Mathlib.Omega.{arith}
 use Rattle.chip.specs.State.{fresh}
 use Rattle.chip.specs.Lines.{bit}
 use Rattle.chip.specs.Answers.{value}
 use Rattle.chip.specs.Interrupts.{isEnding}
 use Rattle.chip.specs.Commands.{isConnected, isDisconnected}
-use Rattle.chip.specs.Calls.{Call, pointer, auxiliary, register, time, answer, reselection, free, step}
+use Rattle.chip.specs.Calls.{Call, Outcome, pointer, auxiliary, register, time, answer, reselection, free, step}
 use Rattle.chip.specs.declared.State.{State}
 use Rattle.chip.specs.declared.Wire.{Wire}
+use Rattle.chip.specs.declared.Connection.the-variants.{Selecting}
 use Rattle.chip.proofs.Computing.{everything}
 use Rattle.unread.specs.Status.{isCommand, isReset, isSelection, readsAt, raised}
 use Rattle.unread.specs.History.{run}
 use Rattle.unread.specs.Wrong.{instead, drops}
 use Rattle.unread.proofs.Choosing.{clash}
+use Rattle.unread.proofs.Telling.{isSelecting}
 use Rattle.unread.proofs.Because.{raised-because, ending-because}
-use Rattle.unread.proofs.Codes.{since-last}
+use Rattle.unread.proofs.Codes.{before, before-one, since-last, since-back}
 use Rattle.unread.proofs.Refuted.{callsEnding}
 use Rattle.belongs.specs.StillBus.{StillBus}
 use Rattle.belongs.specs.Belongs.{Causes, at-once, to-come, StatusBelongs}
-use Rattle.belongs.specs.TimedOut.{TimedOutIsTrue}
-use Rattle.belongs.specs.Wrong.{late, intrudes, swallows, ticks, eager, hangsUp, hides, misleads}
+use Rattle.belongs.specs.TimedOut.{Waited, begun, passed, TimedOutIsTrue}
+use Rattle.belongs.specs.Wrong.{late, intrudes, swallows, ticks, eager, hangsUp, hides, misleads, impatient, poaches}
 
 -- a timeout of 1, a Select, and one unit passes: 42h, unread
 abbrev callsTimedOut : List Call
@@ -118,3 +121,35 @@ misleads-unheard h = let z : _≡_ {A = ℕ} 0 0x11 = ap value (h .heard callsSe
 pub late-answered : TimedOutIsTrue late → ⊥
 unfolding everything run late instead
 late-answered h = clash (ap isDisconnected (h .apart (callsTimedOut ++ (answer ∷ [])) refl refl)) refl
+
+-- a timeout of 3; a selection that is aborted after two units; the next one is over after one
+abbrev callsAborted : List Call
+callsAborted =
+    pointer 1 0x02 ∷ register 1 0x03 ∷ pointer 1 0x18 ∷ register 1 0x06 ∷ time 2 ∷ register 1 0x01 ∷ pointer 1 0x17 ∷ register 0 0
+    ∷ pointer 1 0x18 ∷ register 1 0x06 ∷ []
+
+waited-end : {f : Call → State → Outcome} {n : ℕ} {l : List Call} → Waited f n l
+    → (n ≡ 0) ⊎ (run f (before l) fresh .wire .connection ≡ Selecting)
+waited-end (begun l c b) = inl refl
+waited-end (passed l c w y a) = inr (rw (before-one c l) y)
+
+pub impatient-early : TimedOutIsTrue impatient → ⊥
+unfolding everything run impatient isSelection isCommand isReset raised
+impatient-early h =
+    let r = h .ran-out callsAborted (time 1) (record { raises = refl; code = refl }) in
+    let o : 3 ≤ r .waited + 1 = r .over in
+    ⊎-elim (λ e. omega (arith, o)) (λ e. clash (ap isSelecting e) refl) (waited-end (r .selected))
+
+-- a Select-And-Transfer, the Target answers; a Select is written; one unit passes
+abbrev callsPoached : List Call
+callsPoached = pointer 1 0x02 ∷ register 1 0x01 ∷ pointer 1 0x18 ∷ register 1 0x08 ∷ answer ∷ register 1 0x06 ∷ time 1 ∷ []
+
+-- back from 42h to the Answer that was taken: neither the Time nor that Select begins a selection
+pub poaches-answered : TimedOutIsTrue poaches → ⊥
+unfolding everything run poaches instead isSelection isCommand
+poaches-answered h =
+    ⊎-elim (λ b. clash (b .command) refl)
+    (λ x. ⊎-elim (λ b. clash (ap isDisconnected (b .apart)) refl)
+    (λ y. ⊎-elim (λ b. clash (b .command) refl) (λ z. clash (z .0 refl) refl) (since-back auxiliary (y .1)))
+    (since-back auxiliary (x .1)))
+    (since-back auxiliary (h .nobody callsPoached refl refl))

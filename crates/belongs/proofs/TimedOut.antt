@@ -3,17 +3,20 @@
 use mathlib.Core.Path.{_≡_, refl, sym, ap, subst, _∙_}
 use mathlib.Core.Bool.{true, false}
 use mathlib.Core.List.{List, [], _∷_, _++_}
-use Prim.Native.Nat.{ℕ}
-use Rattle.chip.specs.Choice.{either}
+use Prim.Native.Nat.{ℕ, _+_, _≤_}
+use native.Mathlib.Omega.{arith}
+use lib.Dec.{eqb}
+use borrow.Author.Tests.{leb-true}
+use Rattle.chip.specs.Choice.{pick, either}
 use Rattle.chip.specs.State.{fresh}
 use Rattle.chip.specs.Interrupts.{interrupted, raise, outgoingDropped}
 use Rattle.chip.specs.Events as E
-use Rattle.chip.specs.Calls.{Call, Outcome, pointer, auxiliary, register, block, time, answer, reselection, request, free, plain, carried, step}
+use Rattle.chip.specs.Calls.{Call, pointer, auxiliary, register, block, time, answer, reselection, request, free, isGood, carried, step}
 use Rattle.chip.specs.declared.State.{State}
 use Rattle.chip.specs.declared.Reply.{Reply}
 use Rattle.chip.specs.declared.Connection.{Connection}
 use Rattle.chip.specs.declared.Connection.the-variants.{Disconnected, Selecting}
-use Rattle.chip.proofs.Cases.{by-case}
+use Rattle.chip.proofs.Cases.{by-pick, by-case, by-test}
 use Rattle.unread.specs.Status.{isReset, isCommand, isAnswer, raised}
 use Rattle.unread.specs.History.{run}
 use Rattle.unread.specs.Codes as C
@@ -23,35 +26,58 @@ use Rattle.unread.proofs.Unread.{raised-from-quiet, raised-sets-int}
 use Rattle.unread.proofs.Because.{raised-because}
 use Rattle.unread.proofs.Codes.{run-more, since-map, time-ends-nothing, codes-only-by}
 use Rattle.belongs.specs.Belongs.{Causes, at-once, to-come, unread, Undisturbed}
-use Rattle.belongs.specs.TimedOut.{TurnedAway, TimedOutIsTrue}
+use Rattle.belongs.specs.TimedOut.{units, TurnedAway, RanOut, TimedOutIsTrue}
 use Rattle.belongs.proofs.Belongs.{owed-belongs}
+use Rattle.belongs.proofs.Waited.{HasWaited, waits-for, has-waited}
 
--- a Time that raises a code while selecting leaves the controller Disconnected
-time-parts : (n : ℕ) (s : State) → s .wire .connection ≡ Selecting → interrupted s ≡ false → interrupted (step (time n) s .state) ≡ true
-    → step (time n) s .state .wire .connection ≡ Disconnected
-unfolding step carried E.passed E.selectionTime E.timedOut raise outgoingDropped
-time-parts n s x i =
-    by-case Parts _
-    (λ g. by-case (λ (r : Reply). Parts (plain r)) _ (λ e. none)
-    (λ e. subst (λ (y : Connection). Parts (plain (E.passedBy y n s))) (sym x) selecting))
-    (λ g. none)
+-- a Time that raises a code while selecting: the timeout is over, and it leaves the controller Disconnected
+record Over (n : ℕ) (s t : State) : Type 0 where
+  limited : eqb (s .registers .timeout) 0 ≡ false
+  over : s .registers .timeout ≤ s .wire .elapsed + n
+  apart : t .wire .connection ≡ Disconnected
+
+abbrev Parts : ℕ → State → Reply → Type 0
+Parts n s r = interrupted (r .state) ≡ true → Over n s (r .state)
+
+passed-over-time : (n : ℕ) (s : State) → s .wire .connection ≡ Selecting → interrupted s ≡ false → Parts n s (E.passed n s)
+unfolding E.passed E.selectionTime E.timedOut raise outgoingDropped
+passed-over-time n s x i =
+    by-pick (Parts n s) _ none (subst (λ (y : Connection). Parts n s (E.passedBy y n s)) (sym x) selecting)
   where
-    Parts : Outcome → Type 0
-    Parts o = interrupted (o .state) ≡ true → o .state .wire .connection ≡ Disconnected
-
-    none : interrupted s ≡ true → s .wire .connection ≡ Disconnected
+    none : interrupted s ≡ true → Over n s s
     none j = clash j i
 
-    selecting : Parts (plain (E.selectionTime n s))
+    selecting : Parts n s (E.selectionTime n s)
     selecting =
-        by-case (λ (r : Reply). Parts (plain r)) _ (λ e. none)
-        (λ e. by-case (λ (r : Reply). Parts (plain r)) _ (λ f. none)
-        (λ f. by-case (λ (r : Reply). Parts (plain r)) _ (λ u j. refl) (λ u. none)))
+        by-pick (Parts n s) _ none
+        (by-case (Parts n s) _ (λ f. none)
+        (λ f. by-case (Parts n s) _ (λ u j. record { limited = f; over = leb-true _ _ u; apart = refl }) (λ u. λ j. clash j i)))
 
-raising-parts : (n : ℕ) (s : State) → s .wire .connection ≡ Selecting → raised (time n) s (step (time n) s .state) ≡ true
-    → step (time n) s .state .wire .connection ≡ Disconnected
+time-over : (n : ℕ) (s : State) → s .wire .connection ≡ Selecting → interrupted s ≡ false → interrupted (step (time n) s .state) ≡ true
+    → Over (units (time n)) s (step (time n) s .state)
+unfolding step carried pick
+time-over n s x i =
+    by-test (isGood (time n)) (λ g. rw g (passed-over-time n s x i)) (λ g. rw g (λ j. clash j i))
+
+raising-over : (n : ℕ) (s : State) → s .wire .connection ≡ Selecting → raised (time n) s (step (time n) s .state) ≡ true
+    → Over (units (time n)) s (step (time n) s .state)
 unfolding isReset isCommand
-raising-parts n s x h = time-parts n s x (raised-from-quiet (time n) s refl h) (raised-sets-int (time n) s _ h)
+raising-over n s x h = time-over n s x (raised-from-quiet (time n) s refl h) (raised-sets-int (time n) s _ h)
+
+-- .. of a call that raises 42h
+raised-over : (l : List Call) (c : Call) → Raises step l c 0x42
+    → Over (units c) (run step l fresh) (step c (run step l fresh) .state)
+raised-over l c r =
+    let s : State = run step l fresh in
+    let w = codes-only-by .by-time l c r in
+    subst (λ (d : Call). raised d s (step d s .state) ≡ true → Over (units d) s (step d s .state)) (sym (w .1))
+    (raising-over (w .0) s (w .2)) (r .raises)
+
+ran-out : (l : List Call) (c : Call) → Raises step l c 0x42 → RanOut step l c
+ran-out l c r = from (has-waited l (codes-only-by .by-time l c r .2)) (raised-over l c r)
+  where
+    from : HasWaited l → Over (units c) (run step l fresh) (step c (run step l fresh) .state) → RanOut step l c
+    from (waits-for n w m) o = record { limited = o .limited; waited = n; selected = w; over = omega (arith, o .over) }
 
 no-answer : (c : Call) (n : ℕ) → c ≡ time n → isAnswer c ≡ false
 no-answer c n e = ap isAnswer e
@@ -80,11 +106,8 @@ timed-out l c (at-once b o) =
     let s : State = run step l fresh in
     let r : Raises step l c 0x42 = record { raises = raised-because .complete c s 0x42 b; code = raised-because .code c s 0x42 b } in
     let w = codes-only-by .by-time l c r in
-    let t : step c s .state .wire .connection ≡ Disconnected =
-    subst (λ (d : Call). raised d s (step d s .state) ≡ true → step d s .state .wire .connection ≡ Disconnected) (sym (w .1))
-    (raising-parts (w .0) s (w .2)) (r .raises) in
     record {
-      apart = ap (λ (u : State). u .wire .connection) (run-more step l c fresh) ∙ t;
+      apart = ap (λ (u : State). u .wire .connection) (run-more step l c fresh) ∙ raised-over l c r .apart;
       nobody =
           C.still l c (since-map (λ d u x. x) (λ d u x a. clash a (x .1)) (codes-only-by .unanswered l c r))
           (λ a. clash a (no-answer c (w .0) (w .1)));
@@ -104,4 +127,5 @@ timed-out-is-true =
     record {
       apart = λ l i e. missed (owed-belongs l 0x42 (unread i e)) .apart;
       nobody = λ l i e. missed (owed-belongs l 0x42 (unread i e)) .nobody;
+      ran-out = ran-out;
     }

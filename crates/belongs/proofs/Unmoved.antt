@@ -1,5 +1,6 @@
 -- With a status unread nothing that the host does moves the bus or a command, but for Reset.
---   unmoved   the bus lines, connection and running command after any other call
+--   unmoved       the bus lines, connection and running command after any other call
+--   stored-wire   a write to a register leaves the bus
 use mathlib.Core.Path.{_≡_, refl, ap}
 use mathlib.Core.Bool.{true, false}
 use mathlib.Core.List.{List, [], _∷_}
@@ -33,6 +34,38 @@ pub record Unmoved (s t : State) : Type 0 where
 
 abbrev rest : (s : State) → Unmoved s s
 rest s = record { wire = refl; transfer = refl }
+
+-- registers 00 to 16h
+
+pub stored-wire : (s : State) (a b : ℕ) → R.stored a b s .wire ≡ s .wire
+unfolding R.stored
+stored-wire s a b =
+    by-pick So _ refl
+    (by-pick So _ refl
+    (by-pick So _ refl
+    (by-pick So _ refl
+    (by-pick So _ refl
+    (by-pick So _ refl
+    (by-pick So _ refl
+    (by-pick So _ refl (by-pick So _ refl (by-pick So _ refl (by-pick So _ refl refl))))))))))
+  where
+    So : State → Type 0
+    So t = t .wire ≡ s .wire
+
+stored-transfer : (s : State) (a b : ℕ) → R.stored a b s .transfer ≡ s .transfer
+unfolding R.stored
+stored-transfer s a b =
+    by-pick So _ refl
+    (by-pick So _ refl
+    (by-pick So _ refl
+    (by-pick So _ refl
+    (by-pick So _ refl
+    (by-pick So _ refl
+    (by-pick So _ refl
+    (by-pick So _ refl (by-pick So _ refl (by-pick So _ refl (by-pick So _ refl refl))))))))))
+  where
+    So : State → Type 0
+    So t = t .transfer ≡ s .transfer
 
 -- the Data register gives and takes nothing
 module _ (s : State) (e : isEmpty (s .fifo) ≡ true) (d : dbr s ≡ false) where
@@ -68,36 +101,6 @@ module _ (s : State) (x : Sound s) (i : interrupted s ≡ true) where
   commanded-rests b n =
       by-case Rests _ (λ e. clash e n) (λ e. by-case Rests _ (λ f. record { wire = refl; transfer = refl }) (λ f. clash i f))
 
-  stored-wire : (a b : ℕ) → R.stored a b s .wire ≡ s .wire
-  unfolding R.stored
-  stored-wire a b =
-      by-pick So _ refl
-      (by-pick So _ refl
-      (by-pick So _ refl
-      (by-pick So _ refl
-      (by-pick So _ refl
-      (by-pick So _ refl
-      (by-pick So _ refl
-      (by-pick So _ refl (by-pick So _ refl (by-pick So _ refl (by-pick So _ refl refl))))))))))
-    where
-      So : State → Type 0
-      So t = t .wire ≡ s .wire
-
-  stored-transfer : (a b : ℕ) → R.stored a b s .transfer ≡ s .transfer
-  unfolding R.stored
-  stored-transfer a b =
-      by-pick So _ refl
-      (by-pick So _ refl
-      (by-pick So _ refl
-      (by-pick So _ refl
-      (by-pick So _ refl
-      (by-pick So _ refl
-      (by-pick So _ refl
-      (by-pick So _ refl (by-pick So _ refl (by-pick So _ refl (by-pick So _ refl refl))))))))))
-    where
-      So : State → Type 0
-      So t = t .transfer ≡ s .transfer
-
   read-rests : (a : ℕ) → Rests (R.readAt a s)
   unfolding R.readAt
   read-rests a =
@@ -110,7 +113,7 @@ module _ (s : State) (x : Sound s) (i : interrupted s ≡ true) where
   written-rests m b g w r =
       by-case Rests _ (λ a. commanded-rests b (rw (g, w, a) at r))
       (λ a. by-pick Rests _ (rw (none-written s none-waits shut b) (rest s))
-      (record { wire = stored-wire (s .status .pointer) b; transfer = stored-transfer (s .status .pointer) b }))
+      (record { wire = stored-wire s (s .status .pointer) b; transfer = stored-transfer s (s .status .pointer) b }))
 
   access-rests : (m b : ℕ) → isGood (register m b) ≡ true → isReset (register m b) s ≡ false → Rests (R.accessed (isSet m) b s)
   unfolding R.accessed R.stepped R.accessedAt

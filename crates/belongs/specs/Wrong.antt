@@ -7,14 +7,16 @@
 --   hangsUp    the read of a status gives it and disconnects
 --   hides      auxiliary status shows 0 while a status is unread
 --   misleads   the pointer set to 17h goes to 16h
+--   impatient  a Select goes on counting where the last selection stopped
+--   poaches    a Select is taken over a running command while connected: the Target is dropped, and 42h comes for one that had answered
 -- `drops` of room unread, a Time that forgets an ending with its code, is refuted here too.
 use mathlib.Core.Bool.{Bool}
 use Prim.Native.Nat.{ℕ, _+_}
 use lib.Dec.{eqb}
 use Rattle.chip.specs.Choice.{pick, both}
 use Rattle.chip.specs.State.{setPointer, setConnection, setElapsed}
-use Rattle.chip.specs.Interrupts.{interrupted}
-use Rattle.chip.specs.Commands.{isDisconnected, selecting}
+use Rattle.chip.specs.Interrupts.{interrupted, isRunning}
+use Rattle.chip.specs.Commands.{isConnected, isDisconnected, selecting}
 use Rattle.chip.specs.Calls.{Call, Outcome, kind, step}
 use Rattle.chip.specs.declared.State.{State}
 use Rattle.chip.specs.declared.Connection.the-variants.{Disconnected, Connected}
@@ -71,3 +73,18 @@ misleads c s =
       state = pick (eqb (kind c) 0) (astray (step c s .state)) (step c s .state);
       lent = step c s .lent;
     }
+
+-- the units of an earlier selection are added to those of the next
+unfoldable pub impatient : Call → State → Outcome
+impatient c s =
+    record {
+      answer = step c s .answer;
+      state = pick (isSelection c s) (setElapsed (s .wire .elapsed) (step c s .state)) (step c s .state);
+      lent = step c s .lent;
+    }
+
+unfoldable pub poaches : Call → State → Outcome
+unfolding instead
+poaches =
+    instead (λ c s. both (isSelection c s) (both (isConnected (s .wire .connection)) (isRunning (s .transfer .running))))
+    (selecting SelectWithAtn)

@@ -3,9 +3,9 @@
 --   selections-begun   a selection was begun by a Select command, and no Answer came since
 --   codes-only-by   who raises which code
 --   time-ends-nothing   no ending has the code 42h
---   since-began since-last   what follows from the call that began it, or from the last one, follows
+--   since-began since-last since-end since-back   what follows from the call that began it, or from the last one, follows
 --   since-map       .. and goes over into what else holds of these calls
---   lastOf before   the last call of a list, and those before it
+--   lastOf before before-one   the last call of a list, and those before it
 --   by-calls        what holds with no call made, and with one more, holds over every list of calls
 --   run-more        .. the state with one more
 use mathlib.Core.Path.{_≡_, refl, sym, ap, _∙_}
@@ -261,16 +261,26 @@ last-one : (d c : Call) (l : List Call) → lastOf d (l ++ (c ∷ [])) ≡ c
 last-one d c [] = refl
 last-one d c (e ∷ l) = last-one e c l
 
-before-one : (c : Call) (l : List Call) → before (l ++ (c ∷ [])) ≡ l
+pub before-one : (c : Call) (l : List Call) → before (l ++ (c ∷ [])) ≡ l
 before-one c [] = refl
 before-one c (d ∷ []) = refl
 before-one c (d ∷ e ∷ l) = ap (λ (m : List Call). d ∷ m) (before-one c (e ∷ l))
 
+-- the last call began it, or went on with what the calls before it had
+pub since-back : {f : Call → State → Outcome} {B N : Call → State → Type 0} {l : List Call} (d : Call) → Since f B N l
+    → B (lastOf d l) (run f (before l) fresh) ⊎ (N (lastOf d l) (run f (before l) fresh) × Since f B N (before l))
+since-back d (C.now l c b) = inl (rw (last-one d c l, before-one c l) b)
+since-back d (C.still l c h n) = inr (rw (last-one d c l, before-one c l) n, rw (before-one c l) h)
+
 -- what follows from the last call, whether it began or went on, follows
 pub since-last : {f : Call → State → Outcome} {B N : Call → State → Type 0} {l : List Call} {X : Type 0} (d : Call)
     → (B (lastOf d l) (run f (before l) fresh) → X) → (N (lastOf d l) (run f (before l) fresh) → X) → Since f B N l → X
-since-last d x y (C.now l c b) = x (rw (last-one d c l, before-one c l) b)
-since-last d x y (C.still l c h n) = y (rw (last-one d c l, before-one c l) n)
+since-last d x y h = ⊎-elim x (λ n. y (n .0)) (since-back d h)
+
+pub since-end : {f : Call → State → Outcome} {B N : Call → State → Type 0} (l : List Call) (c : Call) → Since f B N (l ++ (c ∷ []))
+    → B c (run f l fresh) ⊎ N c (run f l fresh)
+since-end {f} {B} {N} l c =
+    since-last c (λ b. inl (rw (last-one c c l, before-one c l) at b)) (λ n. inr (rw (last-one c c l, before-one c l) at n))
 
 pub since-began : {f : Call → State → Outcome} {B N : Call → State → Type 0} {l : List Call} {X : Type 0}
     → ((c : Call) (s : State) → B c s → X) → Since f B N l → X

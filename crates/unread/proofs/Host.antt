@@ -113,7 +113,7 @@ each-barred [] e k = refl
 each-barred (x ∷ l) e zero = both-first _ _ e
 each-barred (x ∷ l) e (suc k) = each-barred l (both-second (isBarred x) _ e) k
 
-valid-apart : (k : ℕ) (s : State) → eqb k 0x00 ≡ false → eqb k 0x01 ≡ false → isValid k s ≡ true
+pub valid-apart : (k : ℕ) (s : State) → eqb k 0x00 ≡ false → eqb k 0x01 ≡ false → isValid k s ≡ true
     → isSelecting (s .wire .connection) ≡ false
 unfolding isValid entryOf table allBarred isBarred both either
 valid-apart zero s n o v = clash refl n

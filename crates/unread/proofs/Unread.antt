@@ -8,7 +8,7 @@ use mathlib.Core.Path.{_≡_, refl, ap}
 use mathlib.Core.Logic.{_↔_}
 use mathlib.Core.Bool.{true, false}
 use lib.Dec.{eqb}
-use borrow.Author.Tests.{eq-eqb, ne-eqb}
+use borrow.Author.Tests.{eq-eqb}
 use Rattle.chip.specs.Choice.{both, either}
 use Rattle.chip.specs.Interrupts.{interrupted, isInterrupt}
 use Rattle.chip.specs.Calls.{Call, step}
