@@ -78,11 +78,15 @@ impl Mistake {
                 *state = before;
                 state.block(1, &mut slice[..1]);
             }
-            (Mistake::AnswerTakenOverUnreadTimeout, Call::Answer, Answer::OutOfPlace) if before.has_interrupt() && before.code == 0x42 => {
+            (Mistake::AnswerTakenOverUnreadTimeout, Call::Answer, Answer::OutOfPlace)
+                if before.has_interrupt() && before.code == 0x42 =>
+            {
                 state.connection = Connection::Connected;
                 return Answer::Done(0);
             }
-            (Mistake::TimeForgetsAnEnding, Call::Time { .. }, Answer::Done(_)) if matches!(before.pending, Pending::Ending(_)) => {
+            (Mistake::TimeForgetsAnEnding, Call::Time { .. }, Answer::Done(_))
+                if matches!(before.pending, Pending::Ending(_)) =>
+            {
                 state.pending = Pending::Nothing;
             }
             (Mistake::TimeoutOneUnitLate, Call::Time { units }, _) if before.connection == Connection::Selecting => {
