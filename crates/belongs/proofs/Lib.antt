@@ -2,4 +2,5 @@ pub mod StillBus
 pub mod Unmoved
 pub mod Belongs
 pub mod TimedOut
+pub mod Connection
 pub mod Refuted

@@ -1,5 +1,6 @@
 -- With a status unread nothing that the host does moves the bus or a command, but for Reset.
---   unmoved   the bus lines, connection and running command after any other call
+--   stored-wire   a register that is written leaves the bus lines and the connection
+--   unmoved       the bus lines, connection and running command after any other call
 use mathlib.Core.Path.{_≡_, refl, ap}
 use mathlib.Core.Bool.{true, false}
 use mathlib.Core.List.{List, [], _∷_}
@@ -50,25 +51,9 @@ module _ (s : State) (e : isEmpty (s .fifo) ≡ true) (d : dbr s ≡ false) wher
   block-written [] = refl
   block-written (b ∷ l) = rw (none-written b)
 
-module _ (s : State) (x : Sound s) (i : interrupted s ≡ true) where
-  abbrev Rests : Reply → Type 0
-  Rests r = Unmoved s (r .state)
-
-  abbrev Leads : Outcome → Type 0
-  Leads o = Unmoved s (o .state)
-
-  none-waits : isEmpty (s .fifo) ≡ true
-  none-waits = facts x .idle-empty (facts x .int-idle i)
-
-  shut : dbr s ≡ false
-  shut = facts x .idle-shut (facts x .int-idle i)
-
-  commanded-rests : (b : ℕ) → eqb (codeOf b) 0x00 ≡ false → Rests (commanded b s)
-  unfolding commanded
-  commanded-rests b n =
-      by-case Rests _ (λ e. clash e n) (λ e. by-case Rests _ (λ f. record { wire = refl; transfer = refl }) (λ f. clash i f))
-
-  stored-wire : (a b : ℕ) → R.stored a b s .wire ≡ s .wire
+-- a register that is written
+module _ (s : State) where
+  pub stored-wire : (a b : ℕ) → R.stored a b s .wire ≡ s .wire
   unfolding R.stored
   stored-wire a b =
       by-pick So _ refl
@@ -98,6 +83,24 @@ module _ (s : State) (x : Sound s) (i : interrupted s ≡ true) where
       So : State → Type 0
       So t = t .transfer ≡ s .transfer
 
+module _ (s : State) (x : Sound s) (i : interrupted s ≡ true) where
+  abbrev Rests : Reply → Type 0
+  Rests r = Unmoved s (r .state)
+
+  abbrev Leads : Outcome → Type 0
+  Leads o = Unmoved s (o .state)
+
+  none-waits : isEmpty (s .fifo) ≡ true
+  none-waits = facts x .idle-empty (facts x .int-idle i)
+
+  shut : dbr s ≡ false
+  shut = facts x .idle-shut (facts x .int-idle i)
+
+  commanded-rests : (b : ℕ) → eqb (codeOf b) 0x00 ≡ false → Rests (commanded b s)
+  unfolding commanded
+  commanded-rests b n =
+      by-case Rests _ (λ e. clash e n) (λ e. by-case Rests _ (λ f. record { wire = refl; transfer = refl }) (λ f. clash i f))
+
   read-rests : (a : ℕ) → Rests (R.readAt a s)
   unfolding R.readAt
   read-rests a =
@@ -110,7 +113,7 @@ module _ (s : State) (x : Sound s) (i : interrupted s ≡ true) where
   written-rests m b g w r =
       by-case Rests _ (λ a. commanded-rests b (rw (g, w, a) at r))
       (λ a. by-pick Rests _ (rw (none-written s none-waits shut b) (rest s))
-      (record { wire = stored-wire (s .status .pointer) b; transfer = stored-transfer (s .status .pointer) b }))
+      (record { wire = stored-wire s (s .status .pointer) b; transfer = stored-transfer s (s .status .pointer) b }))
 
   access-rests : (m b : ℕ) → isGood (register m b) ≡ true → isReset (register m b) s ≡ false → Rests (R.accessed (isSet m) b s)
   unfolding R.accessed R.stepped R.accessedAt

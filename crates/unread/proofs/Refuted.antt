@@ -127,7 +127,7 @@ abbrev callsAnswered : List Call
 callsAnswered = pointer 1 0x02 ∷ register 1 0x01 ∷ pointer 1 0x18 ∷ register 1 0x07 ∷ answer ∷ []
 
 answered-since : Unanswered deaf callsAnswered → ⊥
-unfolding isSelection isCommand either
+unfolding isSelection
 answered-since = since-last auxiliary (λ b. clash (b .0) refl) (λ n. clash refl (n .1))
 
 pub deaf-refused : SelectionsBegun deaf → ⊥
