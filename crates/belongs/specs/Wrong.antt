@@ -1,22 +1,26 @@
--- Wrong steps, each the step with one mistake. proofs/Refuted.antt refutes the promise of each.
+-- Wrong steps, each the step with one mistake. proofs/Refuted.antt refutes the promise, or the table of the connection, of each.
 --   late       with 42h unread and Disconnected an Answer is Done and connects: the fault that this model is built against
 --   intrudes   with a status unread a Reselection is Done and connects, and raises nothing
 --   swallows   with a status unread a Free is Done, and nothing happens: the board takes the bus for free
 --   ticks      with a status unread time adds up
 --   eager      with a status unread a Select is taken
 --   hangsUp    the read of a status gives it and disconnects
+--   hollow     an Answer to 06 or 07 raises 11h, and the controller is Disconnected
+--   sticky     a Free, connected and idle, raises 85h, and the controller stays connected
+--   poaching   a Select is taken while connected with a command running
 -- `drops` of room unread, a Time that forgets an ending with its code, is refuted here too.
-use mathlib.Core.Bool.{Bool}
+use mathlib.Core.Bool.{Bool, not}
 use Prim.Native.Nat.{ℕ, _+_}
 use lib.Dec.{eqb}
 use Rattle.chip.specs.Choice.{pick, both}
-use Rattle.chip.specs.State.{setConnection, setElapsed}
-use Rattle.chip.specs.Interrupts.{interrupted}
-use Rattle.chip.specs.Commands.{isDisconnected, selecting}
+use Rattle.chip.specs.State.{setConnection, setRunning, setElapsed}
+use Rattle.chip.specs.Interrupts.{interrupted, isRunning, raise}
+use Rattle.chip.specs.Commands.{isConnected, isDisconnected, selecting}
 use Rattle.chip.specs.Calls.{Call, Outcome, kind, step}
 use Rattle.chip.specs.declared.State.{State}
-use Rattle.chip.specs.declared.Connection.the-variants.{Disconnected, Connected}
+use Rattle.chip.specs.declared.Connection.the-variants.{Disconnected, Selecting, Connected}
 use Rattle.chip.specs.declared.Running.the-variants.{SelectWithAtn}
+use Rattle.reached.specs.Facts.{isSelect}
 use Rattle.unread.specs.Status.{isSelection, readsAt}
 use Rattle.unread.specs.Wrong.{instead}
 
@@ -53,3 +57,22 @@ hangsUp c s =
       state = pick (both (readsAt 0x17 c s) (interrupted s)) (setConnection Disconnected (step c s .state)) (step c s .state);
       lent = step c s .lent;
     }
+
+unfoldable pub hollow : Call → State → Outcome
+unfolding instead
+hollow =
+    instead (λ c s. both (eqb (kind c) 5) (isSelect (s .transfer .running))) (λ s. raise 0x11 (setConnection Disconnected s))
+
+unfoldable pub sticky : Call → State → Outcome
+unfolding instead
+sticky =
+    instead
+    (λ c s. both (eqb (kind c) 8)
+    (both (isConnected (s .wire .connection)) (both (not (isRunning (s .transfer .running))) (not (interrupted s)))))
+    (raise 0x85)
+
+unfoldable pub poaching : Call → State → Outcome
+unfolding instead
+poaching =
+    instead (λ c s. both (isSelection c s) (both (isConnected (s .wire .connection)) (isRunning (s .transfer .running))))
+    (λ s. setRunning SelectWithAtn (setConnection Selecting s))

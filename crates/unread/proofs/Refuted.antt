@@ -16,7 +16,6 @@ use mathlib.Core.List.{List, [], _∷_, _++_}
 use Prim.Native.Nat.{ℕ}
 use native.Mathlib.Omega.{arith}
 use lib.ListN.{replicate}
-use Rattle.chip.specs.Choice.{either}
 use Rattle.chip.specs.State.{fresh, setCode, setPending, setPointer, setTimeout, setConnection, setRunning, setDirection, setCount, setFifo}
 use Rattle.chip.specs.Interrupts.{isInterrupt, isEnding}
 use Rattle.chip.specs.Calls.{Call, pointer, auxiliary, register, time, answer, request, free, kind, after}
