@@ -1,8 +1,9 @@
--- The promise refuses the wrong steps of specs/Wrong.antt: `Law wrong → ⊥`, each at calls from a fresh controller.
+-- The promise, and the table of the connection, refuse the wrong steps of specs/Wrong.antt: `Law wrong → ⊥`, each at calls from a fresh controller.
 --   late-moves intrudes-moves swallows-taken ticks-moves drops-moves   by StillBus
 --   late-lies intrudes-lies swallows-lies eager-lies hangs-up-lies     by StatusBelongs
 --   hides-silent misleads-unheard                                      by StatusBelongs
 --   late-answered poaches-answered impatient-early                     by TimedOutIsTrue
+--   hollow-parts sticky-stays poaches-selects                          by ConnectionGoes
 --   late-wound   what a driver then reads of the disk that has answered: connected, and 42h
 use mathlib.Core.Path.{_≡_, refl, ap}
 use mathlib.Core.Bool.{false}
@@ -18,7 +19,7 @@ use Rattle.chip.specs.Commands.{isConnected, isDisconnected}
 use Rattle.chip.specs.Calls.{Call, Outcome, pointer, auxiliary, register, time, answer, reselection, free, step}
 use Rattle.chip.specs.declared.State.{State}
 use Rattle.chip.specs.declared.Wire.{Wire}
-use Rattle.chip.specs.declared.Connection.the-variants.{Selecting}
+use Rattle.chip.specs.declared.Connection.the-variants.{Disconnected, Selecting, Connected}
 use Rattle.chip.proofs.Computing.{everything}
 use Rattle.unread.specs.Status.{isCommand, isReset, isSelection, readsAt, raised}
 use Rattle.unread.specs.History.{run}
@@ -31,7 +32,9 @@ use Rattle.unread.proofs.Refuted.{callsEnding}
 use Rattle.belongs.specs.StillBus.{StillBus}
 use Rattle.belongs.specs.Belongs.{Causes, at-once, to-come, StatusBelongs}
 use Rattle.belongs.specs.TimedOut.{Waited, begun, passed, TimedOutIsTrue}
-use Rattle.belongs.specs.Wrong.{late, intrudes, swallows, ticks, eager, hangsUp, hides, misleads, impatient, poaches}
+use Rattle.belongs.specs.Connection as C
+use Rattle.belongs.specs.Connection.{Goes, ConnectionGoes, letsGo}
+use Rattle.belongs.specs.Wrong.{late, intrudes, swallows, ticks, eager, hangsUp, hides, misleads, impatient, poaches, hollow, sticky}
 
 -- a timeout of 1, a Select, and one unit passes: 42h, unread
 abbrev callsTimedOut : List Call
@@ -153,3 +156,29 @@ poaches-answered h =
     (λ y. ⊎-elim (λ b. clash (b .command) refl) (λ z. clash (z .0 refl) refl) (since-back auxiliary (y .1)))
     (since-back auxiliary (x .1)))
     (since-back auxiliary (h .nobody callsPoached refl refl))
+
+-- who is connected
+
+pub hollow-parts : ConnectionGoes hollow → ⊥
+unfolding everything run hollow instead
+hollow-parts h =
+    clash (ap isConnected (h .complete (pointer 1 0x18 ∷ register 1 0x07 ∷ []) answer Connected (C.answers refl refl))) refl
+
+-- a Select, the Target answers, and the host reads 11h
+pub sticky-stays : ConnectionGoes sticky → ⊥
+unfolding everything run sticky instead letsGo
+sticky-stays h =
+    clash
+    (ap isDisconnected (h .complete (callsSelected ++ (pointer 1 0x17 ∷ register 0 0 ∷ [])) free Disconnected (C.frees refl refl refl)))
+    refl
+
+-- only a Disconnected controller selects
+selects-apart : {c : Call} {s : State} → Goes c s Selecting → s .wire .connection ≡ Disconnected
+selects-apart (C.selects k e w q i x v) = x
+
+-- a Select-And-Transfer, and the Target answers
+pub poaches-selects : ConnectionGoes poaches → ⊥
+unfolding everything run poaches instead isSelection
+poaches-selects h =
+    ⊎-elim (λ e. clash (ap isConnected e) refl) (λ g. clash (ap isDisconnected (selects-apart g)) refl)
+    (h .sound (pointer 1 0x18 ∷ register 1 0x09 ∷ answer ∷ []) (register 1 0x06))

@@ -8,7 +8,9 @@ use mathlib.Core.List.{List, [], _∷_, _++_}
 use mathlib.Core.Logic.{⊎-elim}
 use Prim.Native.Nat.{ℕ, _+_, _≤_}
 use native.Mathlib.Omega.{arith}
-use Rattle.chip.specs.Choice.{pick}
+use lib.Dec.{eqb}
+use borrow.Author.Tests.{eq-eqb}
+use Rattle.chip.specs.Choice.{pick, both}
 use Rattle.chip.specs.Phases.{phaseOf}
 use Rattle.chip.specs.Lines.{codeOf}
 use Rattle.chip.specs.State.{fresh}
@@ -30,9 +32,9 @@ use Rattle.chip.specs.declared.Direction.{Direction}
 use Rattle.chip.specs.declared.Direction.the-variants.{Unfixed, In, Out}
 use Rattle.chip.specs.declared.Connection.{Connection}
 use Rattle.chip.specs.declared.Connection.the-variants.{Disconnected, Selecting}
-use Rattle.chip.proofs.Cases.{by-pick, by-case, by-test, either-second}
+use Rattle.chip.proofs.Cases.{by-pick, by-case, by-test, both-first, both-second}
 use Rattle.reached.specs.Sound.{Shape, idle, selects, waits, transfers, informs, ending, readOut, apart, joined}
-use Rattle.unread.specs.Status.{isCommand, isSelection, isAnswer}
+use Rattle.unread.specs.Status.{isCommandOf, isCommand, isSelectCode, isSelection, isAnswer}
 use Rattle.unread.specs.History.{run}
 use Rattle.unread.specs.Because.{Quiet}
 use Rattle.unread.specs.Codes.{Selects}
@@ -218,15 +220,27 @@ module _ (s : State) (x : s .wire .connection ≡ Disconnected) where
   unfolding R.stepped
   command-zero k c e = let h : Issued k c s = issued k c s e in rw (h .leaves) (commanded-zero (h .byte))
 
+-- a selection is a command
+selection-command : (c : Call) (s : State) → isSelection c s ≡ true → (k : ℕ) × (isCommand k c s ≡ true)
+unfolding isSelection isCommand isCommandOf both
+selection-command (pointer m b) s e = clash e refl
+selection-command auxiliary s e = clash e refl
+selection-command (register m b) s e =
+    let f : both (isSet m) (both (eqb (s .status .pointer) 0x18) (isSelectCode (codeOf b))) ≡ true = both-second (isGood (register m b)) _ e in
+    let g : both (eqb (s .status .pointer) 0x18) (isSelectCode (codeOf b)) ≡ true = both-second (isSet m) _ f in
+    let u : isGood (register m b) ≡ true = both-first _ _ e in
+    let v : isSet m ≡ true = both-first _ _ f in
+    let w : eqb (s .status .pointer) 0x18 ≡ true = both-first _ _ g in
+    (codeOf b, rw (u, v, w) (eq-eqb (codeOf b) (codeOf b) refl))
+selection-command (block m l) s e = clash e refl
+selection-command (time n) s e = clash e refl
+selection-command answer s e = clash e refl
+selection-command (reselection lines) s e = clash e refl
+selection-command (request p b q) s e = clash e refl
+selection-command free s e = clash e refl
+
 begins-at-zero : (c : Call) (s : State) → Selects step c s → step c s .state .wire .elapsed ≡ 0
-unfolding isSelection
-begins-at-zero c s h =
-    by-test (isCommand 0x06 c s) (λ e. command-zero s (h .apart) 0x06 c e (h .selecting))
-    (λ n6. by-test (isCommand 0x07 c s) (λ e. command-zero s (h .apart) 0x07 c e (h .selecting))
-    (λ n7. by-test (isCommand 0x08 c s) (λ e. command-zero s (h .apart) 0x08 c e (h .selecting))
-    (λ n8. command-zero s (h .apart) 0x09 c
-    (either-second (isCommand 0x08 c s) _ (either-second (isCommand 0x07 c s) _ (either-second (isCommand 0x06 c s) _ (h .command) n6) n7) n8)
-    (h .selecting))))
+begins-at-zero c s h = let k = selection-command c s (h .command) in command-zero s (h .apart) (k .0) c (k .1) (h .selecting)
 
 -- a reached state that selects has nothing pending
 at-rest : {one : Bool} {n : ℕ} {p : Pending} {r : Running} {c : Connection} {d : Direction} {f : Fifo} {atn ack : Bool} {w : Noted}

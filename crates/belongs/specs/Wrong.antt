@@ -1,4 +1,4 @@
--- Wrong steps, each the step with one mistake. proofs/Refuted.antt refutes the promise of each.
+-- Wrong steps, each the step with one mistake. proofs/Refuted.antt refutes the promise, or the table of the connection, of each.
 --   late       with 42h unread and Disconnected an Answer is Done and connects: the fault that this model is built against
 --   intrudes   with a status unread a Reselection is Done and connects, and raises nothing
 --   swallows   with a status unread a Free is Done, and nothing happens: the board takes the bus for free
@@ -9,18 +9,21 @@
 --   misleads   the pointer set to 17h goes to 16h
 --   impatient  a Select goes on counting where the last selection stopped
 --   poaches    a Select is taken over a running command while connected: the Target is dropped, and 42h comes for one that had answered
+--   hollow     an Answer to 06 or 07 raises 11h, and the controller is Disconnected
+--   sticky     a Free, connected and idle, raises 85h, and the controller stays connected
 -- `drops` of room unread, a Time that forgets an ending with its code, is refuted here too.
-use mathlib.Core.Bool.{Bool}
+use mathlib.Core.Bool.{Bool, not}
 use Prim.Native.Nat.{ℕ, _+_}
 use lib.Dec.{eqb}
 use Rattle.chip.specs.Choice.{pick, both}
 use Rattle.chip.specs.State.{setPointer, setConnection, setElapsed}
-use Rattle.chip.specs.Interrupts.{interrupted, isRunning}
+use Rattle.chip.specs.Interrupts.{interrupted, isRunning, raise}
 use Rattle.chip.specs.Commands.{isConnected, isDisconnected, selecting}
 use Rattle.chip.specs.Calls.{Call, Outcome, kind, step}
 use Rattle.chip.specs.declared.State.{State}
-use Rattle.chip.specs.declared.Connection.the-variants.{Disconnected, Connected}
+use Rattle.chip.specs.declared.Connection.the-variants.{Disconnected, Selecting, Connected}
 use Rattle.chip.specs.declared.Running.the-variants.{SelectWithAtn}
+use Rattle.reached.specs.Facts.{isSelect}
 use Rattle.unread.specs.Status.{isSelection, readsAt}
 use Rattle.unread.specs.Wrong.{instead}
 
@@ -88,3 +91,16 @@ unfolding instead
 poaches =
     instead (λ c s. both (isSelection c s) (both (isConnected (s .wire .connection)) (isRunning (s .transfer .running))))
     (selecting SelectWithAtn)
+
+unfoldable pub hollow : Call → State → Outcome
+unfolding instead
+hollow =
+    instead (λ c s. both (eqb (kind c) 5) (isSelect (s .transfer .running))) (λ s. raise 0x11 (setConnection Disconnected s))
+
+unfoldable pub sticky : Call → State → Outcome
+unfolding instead
+sticky =
+    instead
+    (λ c s. both (eqb (kind c) 8)
+    (both (isConnected (s .wire .connection)) (both (not (isRunning (s .transfer .running))) (not (interrupted s)))))
+    (raise 0x85)

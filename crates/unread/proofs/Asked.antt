@@ -6,6 +6,7 @@
 --   open-event         an event that INT does not hold back
 --   completes-row saves-row overruns-row surprises-row spoils-row last-row asks-row   Requests
 --   info-free-row cuts-transfer-row leaves-transfer-row idle-free-row                 Free
+--   transfer-freed     .. while a Select-And-Transfer runs
 use mathlib.Core.Path.{_≡_, refl, ap, ap₂, _∙_}
 use mathlib.Core.Bool.{Bool, true, false, not}
 use Prim.Native.Nat.{ℕ, _+_}
@@ -395,7 +396,7 @@ module _ (s : State) (q : Quiet s) (x : s .wire .connection ≡ Connected) where
   info-free-row t =
       ended-by _ (free-reaches (ap (λ (r : Running). E.freedFrom r s) t ∙ open-event s _ q)) refl
 
-  transfer-freed : isTransfer (s .transfer .running) ≡ true → E.freedFrom (s .transfer .running) s ≡ X.transferFree s (E.busFree s)
+  pub transfer-freed : isTransfer (s .transfer .running) ≡ true → E.freedFrom (s .transfer .running) s ≡ X.transferFree s (E.busFree s)
   transfer-freed e = by-running (s .transfer .running) e
     where
       by-running : (r : Running) → isTransfer r ≡ true → E.freedFrom r s ≡ X.transferFree s (E.busFree s)

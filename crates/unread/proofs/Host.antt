@@ -6,7 +6,11 @@
 --   Pops pops         what one read of the Data register leads to
 --   written-stands block-stands       a write of it leaves code, what is pending, connection and command
 --   going             what holds where a block goes on and where it stops
---   invalid-idle abort-ends is-disconnect   what a command that is not refused by a busy controller, or valid, finds
+--   Drains then block-drains          what several lead to, a block of them
+--   invalid-idle select-idle abort-ends abort-runs is-disconnect   what a command that is not refused by a busy controller, or valid, finds
+--   not-busy-runs not-busy-ends       .. no command runs, and no ending is under way
+--   each-select transfer-selects      the codes of the four commands that select
+--   is-command own-code is-read       the call is that command, or that read
 use mathlib.Core.Path.{_≡_, refl, sym, ap, _∙_}
 use mathlib.Core.Bool.{Bool, true, false, not}
 use mathlib.Core.List.{List, [], _∷_}
@@ -40,7 +44,7 @@ use Rattle.chip.specs.declared.Direction.the-variants.{Unfixed, In, Out}
 use Rattle.chip.specs.declared.Reply.{Reply}
 use Rattle.chip.specs.declared.Running.{Running}
 use Rattle.chip.specs.declared.Running.the-variants.{Idle}
-use Rattle.unread.specs.Status.{isCommand, isReset, isSelection, isDisconnect, isAnswer, readsAt}
+use Rattle.unread.specs.Status.{isCommand, isReset, isSelectCode, isSelection, isDisconnect, isAnswer, readsAt}
 use Rattle.unread.specs.Because as B
 use Rattle.unread.specs.Because.{Quiet, ReadsLast}
 use Rattle.chip.proofs.Cases.{by-pick, by-case, by-test, both-first, both-second, either-first, either-rest, either-second}
@@ -49,11 +53,11 @@ use Rattle.unread.proofs.Telling.{connected-apart, Standing, standing, 
 
 -- commands
 
-not-busy-runs : (s : State) → busy s ≡ false → isRunning (s .transfer .running) ≡ false
+pub not-busy-runs : (s : State) → busy s ≡ false → isRunning (s .transfer .running) ≡ false
 unfolding busy
 not-busy-runs s e = either-first _ _ e
 
-not-busy-ends : (s : State) → busy s ≡ false → ends s ≡ false
+pub not-busy-ends : (s : State) → busy s ≡ false → ends s ≡ false
 unfolding busy
 not-busy-ends s e = either-rest (isRunning (s .transfer .running)) _ e
 
@@ -63,27 +67,24 @@ unfolding isRefusedBusy either
 invalid-idle k s r v = not-first (busy s) _ r (by-test (isTwo (entryOf k .level)) (λ e. rw e) (λ e. rw (e, v)))
 
 -- the four commands that select
-isSelect : ℕ → Bool
-isSelect k = either (eqb k 0x06) (either (eqb k 0x07) (either (eqb k 0x08) (eqb k 0x09)))
-
-each-select : (P : ℕ → Type 0) (k : ℕ) → isSelect k ≡ true → P 0x06 → P 0x07 → P 0x08 → P 0x09 → P k
-unfolding isSelect
+pub each-select : (P : ℕ → Type 0) (k : ℕ) → isSelectCode k ≡ true → P 0x06 → P 0x07 → P 0x08 → P 0x09 → P k
+unfolding isSelectCode
 each-select P k e x y z w = one-or P 0x06 k _ e x (λ f. one-or P 0x07 k _ f y (λ g. one-of P 0x08 0x09 k g z w))
 
 -- nor does anything run where one that selects is not refused so
-select-idle : (k : ℕ) (s : State) → isSelect k ≡ true → isRefusedBusy k s ≡ false → busy s ≡ false
+pub select-idle : (k : ℕ) (s : State) → isSelectCode k ≡ true → isRefusedBusy k s ≡ false → busy s ≡ false
 unfolding isRefusedBusy either entryOf table
 select-idle k s w = each-select (λ (j : ℕ). isRefusedBusy j s ≡ false → busy s ≡ false) k w free-of free-of free-of free-of
   where
     free-of : both (busy s) true ≡ false → busy s ≡ false
     free-of r = not-first (busy s) _ r refl
 
-transfer-selects : (k : ℕ) → either (eqb k 0x08) (eqb k 0x09) ≡ true → isSelect k ≡ true
-unfolding isSelect either
-transfer-selects k w = one-of (λ (j : ℕ). isSelect j ≡ true) 0x08 0x09 k w refl refl
+pub transfer-selects : (k : ℕ) → either (eqb k 0x08) (eqb k 0x09) ≡ true → isSelectCode k ≡ true
+unfolding isSelectCode either
+transfer-selects k w = one-of (λ (j : ℕ). isSelectCode j ≡ true) 0x08 0x09 k w refl refl
 
 -- a valid one finds the controller Disconnected, or connected, where 08 and 09 are the resume
-select-apart : (k : ℕ) (s : State) → isSelect k ≡ true → isValid k s ≡ true → isConnected (s .wire .connection) ≡ false
+select-apart : (k : ℕ) (s : State) → isSelectCode k ≡ true → isValid k s ≡ true → isConnected (s .wire .connection) ≡ false
     → s .wire .connection ≡ Disconnected
 unfolding isValid entryOf table
 select-apart k s w =
@@ -134,7 +135,7 @@ abort-ready k s e v = rw e at (both-second (isPlace (entryOf k .place) (s .wire 
 pub abort-ends : (k : ℕ) (s : State) → eqb k 0x01 ≡ true → isValid k s ≡ true → ends s ≡ false
 abort-ends k s e v = not-true (ends s) (both-second (busy s) _ (abort-ready k s e v))
 
-abort-runs : (k : ℕ) (s : State) → eqb k 0x01 ≡ true → isValid k s ≡ true → isRunning (s .transfer .running) ≡ true
+pub abort-runs : (k : ℕ) (s : State) → eqb k 0x01 ≡ true → isValid k s ≡ true → isRunning (s .transfer .running) ≡ true
 unfolding busy
 abort-runs k s e v = only-first _ (ends s) (both-first (busy s) _ (abort-ready k s e v)) (abort-ends k s e v)
 
@@ -144,11 +145,11 @@ module _
   abbrev Told : State → Type 0
   Told t = ToldState (register m b) s t
 
-  is-command : (k : ℕ) → eqb (codeOf b) k ≡ true → isCommand k (register m b) s ≡ true
+  pub is-command : (k : ℕ) → eqb (codeOf b) k ≡ true → isCommand k (register m b) s ≡ true
   unfolding isCommand both
   is-command k e = rw (good, set, at, e)
 
-  own-code : isCommand (codeOf b) (register m b) s ≡ true
+  pub own-code : isCommand (codeOf b) (register m b) s ≡ true
   own-code = is-command (codeOf b) (eq-eqb (codeOf b) (codeOf b) refl)
 
   still : Tells (register m b) s (standing s)
@@ -161,8 +162,8 @@ module _
       let k : codeOf b ≡ 0x04 = eqb-true _ _ e in
       rw (is-command 0x04 e) (both-first (isConnected (s .wire .connection)) _ (rw k at v))
 
-  is-selection : isSelect (codeOf b) ≡ true → isSelection (register m b) s ≡ true
-  unfolding isSelection isCommand isSelect both
+  is-selection : isSelectCode (codeOf b) ≡ true → isSelection (register m b) s ≡ true
+  unfolding isSelection both
   is-selection e = rw (good, set, at, e)
 
   module _ (i : interrupted s ≡ false) where
@@ -175,14 +176,14 @@ module _
         (B.aborts-connected (is-command 0x01 e) q (abort-runs _ s e v) (is-connected _ x)))
         (λ x. so (raises i (B.aborts (is-command 0x01 e) q (abort-runs _ s e v) x) (gone refl)))
 
-    select-quiet : isSelect (codeOf b) ≡ true → isRefusedBusy (codeOf b) s ≡ false → Quiet s
+    select-quiet : isSelectCode (codeOf b) ≡ true → isRefusedBusy (codeOf b) s ≡ false → Quiet s
     select-quiet w f = quiet-of _ i (not-busy-ends s (select-idle (codeOf b) s w f))
 
     transferring-tells : (r : Running) → isRunning r ≡ true → either (eqb (codeOf b) 0x08) (eqb (codeOf b) 0x09) ≡ true
         → isRefusedBusy (codeOf b) s ≡ false → isValid (codeOf b) s ≡ true → Told (transferring r (accepted b s))
     unfolding transferring resumed accepted selecting fromDisconnected loaded unread both
     transferring-tells r n w f u =
-        let v : isSelect (codeOf b) ≡ true = transfer-selects (codeOf b) w in
+        let v : isSelectCode (codeOf b) ≡ true = transfer-selects (codeOf b) w in
         let q : Quiet s = select-quiet v f in
         by-case Told _
         (λ x. by-case Told _
@@ -193,16 +194,16 @@ module _
 
     carried-tells : (single : Bool) → eqb (codeOf b) 0x00 ≡ false → isRefusedBusy (codeOf b) s ≡ false → isValid (codeOf b) s ≡ true
         → Told (carriedOut (codeOf b) single (accepted b s))
-    unfolding carriedOut accepted disconnected selecting informing loadedInfo isSelect either
+    unfolding carriedOut accepted disconnected selecting informing loadedInfo isSelectCode either
     carried-tells single n0 r v =
         by-case Told _ (λ e. aborted-tells e v)
         (λ n1. let z : isSelecting (s .wire .connection) ≡ false = valid-apart (codeOf b) s n0 n1 v in
         by-pick Told _ (so (moves z))
         (by-pick Told _ (so (moves z))
         (by-case Told _ (λ e. so (settles (disconnects (is-disconnect e v) i)))
-        (λ n4. by-case Told _ (λ e. let w : isSelect (codeOf b) ≡ true = rw e in
+        (λ n4. by-case Told _ (λ e. let w : isSelectCode (codeOf b) ≡ true = rw e in
         so (selects (is-selection w) (select-quiet w r) (only-apart (codeOf b) s (rw e) v) (select-idle (codeOf b) s w r) refl))
-        (λ n6. by-case Told _ (λ e. let w : isSelect (codeOf b) ≡ true = rw (n6, e) in
+        (λ n6. by-case Told _ (λ e. let w : isSelectCode (codeOf b) ≡ true = rw (n6, e) in
         so (selects (is-selection w) (select-quiet w r) (only-apart (codeOf b) s (rw (n6, e)) v) (select-idle (codeOf b) s w r) refl))
         (λ n7. by-case Told _ (λ e. transferring-tells _ refl (rw e) r v)
         (λ n8. by-case Told _ (λ e. transferring-tells _ refl (rw (n8, e)) r v)
@@ -235,7 +236,7 @@ pub data Pops (s : State) : State → Type 0 where
       → Pops s (setConnection Waiting (setPending Nothing (setFifo (pop (s .fifo)) s)))
 
 -- at most n reads of the Data register, made in s, leave z
-data Drains (n : ℕ) (s : State) : Standing → Type 0 where
+pub data Drains (n : ℕ) (s : State) : Standing → Type 0 where
   drains-nothing : Drains n s (standing s)
   drains-wait : isIncoming (s .transfer .direction) ≡ true → 0 < waits (s .fifo) → waits (s .fifo) ≤ n → s .status .pending ≡ ReadOut
       → Drains n s (record { code = s .status .code; pending = Nothing; connection = Waiting; running = s .transfer .running })
@@ -290,7 +291,7 @@ pops s = by-way _ refl
     by-way Out d = nothing-read
 
 -- one read, and then at most n
-then : {n : ℕ} {s t : State} {z : Standing} → Pops s t → Drains n t z → Drains (suc n) s z
+pub then : {n : ℕ} {s t : State} {z : Standing} → Pops s t → Drains n t z → Drains (suc n) s z
 unfolding raise outgoingDropped
 then nothing-read drains-nothing = drains-nothing
 then nothing-read (drains-wait d w v e) = drains-wait d w (omega arith) e
@@ -317,7 +318,7 @@ going P ReselectionIgnored on stop x y = y
 going P NoDataNow on stop x y = y
 going P Reported on stop x y = y
 
-block-drains : (l : List ℕ) (s : State) → Drains (length l) s (standing (blockRead l s .state))
+pub block-drains : (l : List ℕ) (s : State) → Drains (length l) s (standing (blockRead l s .state))
 unfolding blockRead
 block-drains [] s = drains-nothing
 block-drains (x ∷ l) s =
@@ -359,7 +360,7 @@ module _ (m b : ℕ) (s : State) (good : isGood (register m b) ≡ true) where
   unmoved : Tells (register m b) s (standing s)
   unmoved = silent (λ q. refl)
 
-  is-read : (a : ℕ) → isSet m ≡ false → eqb (s .status .pointer) a ≡ true → readsAt a (register m b) s ≡ true
+  pub is-read : (a : ℕ) → isSet m ≡ false → eqb (s .status .pointer) a ≡ true → readsAt a (register m b) s ≡ true
   unfolding readsAt both
   is-read a w e = rw (good, w, e)
 

@@ -1,5 +1,6 @@
 -- Where an ending that has a code to come leaves the connection: as it is, until Reset or Disconnect.
 --   ending-placed   every call but these two keeps the connection, the read of the last byte too
+--   stands-placed   where what stands is the same, so is the connection
 --   isWait          the read-out is pending that leads to the wait for reselection
 use mathlib.Core.Path.{_≡_, refl, ap, _∙_}
 use mathlib.Core.Bool.{Bool, true, false}
@@ -51,7 +52,7 @@ block-placed (b ∷ l) s n =
     (λ v. let h = pops-placed n (pops s) in then-placed h (block-placed l (R.dataRead s .state) (h .calm)))
     (record { connection = refl; calm = n })
 
-stands-placed : (s t : State) → standing t ≡ standing s → t .wire .connection ≡ s .wire .connection
+pub stands-placed : (s t : State) → standing t ≡ standing s → t .wire .connection ≡ s .wire .connection
 stands-placed s t e = ap (λ (x : Standing). x .connection) e
 
 abbrev Same : State → Reply → Type 0

@@ -16,7 +16,6 @@ use mathlib.Core.List.{List, [], _∷_, _++_}
 use Prim.Native.Nat.{ℕ}
 use native.Mathlib.Omega.{arith}
 use lib.ListN.{replicate}
-use Rattle.chip.specs.Choice.{either}
 use Rattle.chip.specs.State.{fresh, setCode, setPending, setPointer, setTimeout, setConnection, setRunning, setDirection, setCount, setFifo}
 use Rattle.chip.specs.Interrupts.{isInterrupt, isEnding}
 use Rattle.chip.specs.Calls.{Call, pointer, auxiliary, register, time, answer, request, free, kind, after}
@@ -127,7 +126,7 @@ abbrev callsAnswered : List Call
 callsAnswered = pointer 1 0x02 ∷ register 1 0x01 ∷ pointer 1 0x18 ∷ register 1 0x07 ∷ answer ∷ []
 
 answered-since : Unanswered deaf callsAnswered → ⊥
-unfolding isSelection isCommand either
+unfolding isSelection
 answered-since = since-last auxiliary (λ b. clash (b .command) refl) (λ n. clash refl (n .1))
 
 pub deaf-refused : SelectionsBegun deaf → ⊥

@@ -1,5 +1,6 @@
 -- The other rows of the table: commands, Time, Answer, Reselection, and the reads that end a read-out.
 --   aborts-connected-row aborts-row refuses-row resumes-row   commands
+--   taken-command abort-taken kept-free                       .. what is taken, and that no idle controller refuses one as busy
 --   times-out-row answers-row reselects-row                   events
 --   byte-row slice-row                                        reads
 --   no-data no-block                                          reads where no byte waits
@@ -66,7 +67,7 @@ stepped-ended c s a r e h =
 
 module _ (c : Call) (s : State) (q : Quiet s) where
   -- a command that is taken
-  taken-command : (b : ℕ) → eqb (codeOf b) 0x00 ≡ false → isRefusedBusy (codeOf b) s ≡ false → isValid (codeOf b) s ≡ true
+  pub taken-command : (b : ℕ) → eqb (codeOf b) 0x00 ≡ false → isRefusedBusy (codeOf b) s ≡ false → isValid (codeOf b) s ≡ true
       → commanded b s .state ≡ carriedOut (codeOf b) (isSingle b) (accepted b s)
   unfolding commanded
   taken-command b n r v =
@@ -81,7 +82,7 @@ module _ (c : Call) (s : State) (q : Quiet s) where
     unfolding isRefusedBusy entryOf table either
     abort-kept = second-fails (busy s) _ (rw abort-valid)
 
-    abort-taken : (b : ℕ) → codeOf b ≡ 0x01 → commanded b s .state ≡ aborted (accepted b s)
+    pub abort-taken : (b : ℕ) → codeOf b ≡ 0x01 → commanded b s .state ≡ aborted (accepted b s)
     unfolding carriedOut pick
     abort-taken b e = taken-command b (rw e) (rw (e, abort-kept)) (rw (e, abort-valid)) ∙ rw e
 
@@ -105,7 +106,7 @@ module _ (c : Call) (s : State) (q : Quiet s) where
     unfolding busy either
     is-free = rw (idle, q)
 
-    kept-free : (k : ℕ) → isRefusedBusy k s ≡ false
+    pub kept-free : (k : ℕ) → isRefusedBusy k s ≡ false
     unfolding isRefusedBusy both
     kept-free k = rw is-free
 

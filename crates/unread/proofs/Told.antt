@@ -5,7 +5,7 @@
 --   issued         .. of a call that writes a command
 --   reset-told     Reset raises 00
 --   Reading reading   a register read, as the step takes it
---   disconnect-told  Disconnect drops what is pending
+--   disconnect-gives disconnect-told   Disconnect is taken, and drops what is pending
 --   ReadTold       what a read of 17h answers and leaves: Blind, or the code
 --   status-read    .. of a call that reads 17h
 use mathlib.Core.Path.{_≡_, refl, ap, ap₂, _∙_}
@@ -159,7 +159,7 @@ status-read c s e =
     (by-case (λ (r : Reply). ReadTold s (plain (R.stepped 0x17 r))) _ (λ b. blind (seen-busy s b) refl refl refl) (λ b. readable (h .byte) s (seen-idle s b)))
 
 -- a Disconnect that finds the controller connected, with no INT, is taken
-disconnect-gives : (b : ℕ) (s : State) → codeOf b ≡ 0x04 → interrupted s ≡ false → isConnected (s .wire .connection) ≡ true
+pub disconnect-gives : (b : ℕ) (s : State) → codeOf b ≡ 0x04 → interrupted s ≡ false → isConnected (s .wire .connection) ≡ true
     → commanded b s ≡ done 0 (disconnected (accepted b s))
 unfolding commanded carriedOut isRefusedBusy isValid isReady entryOf table both either pick
 disconnect-gives b s k i x = by-test (busy s) (λ e. rw (k, i, x, e)) (λ e. rw (k, i, x, e))

@@ -1,12 +1,14 @@
 -- The words of the laws on the status at 17h: which call is a command, which reads a register, which raised a code.
---   isCommand k c s   the call c, made in s, writes a command with the code k to 18h
---   isReset c s       .. the Reset command
---   isSelection c s   .. one of the four that select, 06 to 09
---   isDisconnect c s  .. the Disconnect command, while connected
---   isDropped c s     .. one that drops an ending with its bytes and its code: Reset, or Disconnect while connected
---   isAnswer c        the call c is an Answer
---   readsAt a c s     the call c, made in s, reads the register at the address a
---   raised c s t      the call c, which led from s to t, raised the code that t shows at 17h
+--   isCommandOf t c s  the call c, made in s, writes a command to 18h, and its code passes the test t
+--   isCommand k c s    .. a command with the code k
+--   isReset c s        .. the Reset command
+--   isSelection c s    .. one of the four that select
+--   isSelectCode k     the code k is that of one of the four, 06 to 09
+--   isDisconnect c s   the call c, made in s, is the Disconnect command, while connected
+--   isDropped c s      .. one that drops an ending with its bytes and its code: Reset, or Disconnect while connected
+--   isAnswer c         the call c is an Answer
+--   readsAt a c s      the call c, made in s, reads the register at the address a
+--   raised c s t       the call c, which led from s to t, raised the code that t shows at 17h
 -- INT is `interrupted` of the chip's Interrupts, the code at 17h is `status .code`.
 use mathlib.Core.Bool.{Bool, true, false, not}
 use Prim.Native.Nat.{ℕ}
@@ -18,17 +20,21 @@ use Rattle.chip.specs.Commands.{isConnected}
 use Rattle.chip.specs.Calls.{Call, pointer, auxiliary, register, block, time, answer, reselection, request, free, isGood, isSet}
 use Rattle.chip.specs.declared.State.{State}
 
+unfoldable pub isCommandOf : (ℕ → Bool) → Call → State → Bool
+isCommandOf t (pointer m b) s = false
+isCommandOf t auxiliary s = false
+isCommandOf t (register m b) s =
+    both (isGood (register m b)) (both (isSet m) (both (eqb (s .status .pointer) 0x18) (t (codeOf b))))
+isCommandOf t (block m l) s = false
+isCommandOf t (time n) s = false
+isCommandOf t answer s = false
+isCommandOf t (reselection lines) s = false
+isCommandOf t (request p b q) s = false
+isCommandOf t free s = false
+
 unfoldable pub isCommand : ℕ → Call → State → Bool
-isCommand k (pointer m b) s = false
-isCommand k auxiliary s = false
-isCommand k (register m b) s =
-    both (isGood (register m b)) (both (isSet m) (both (eqb (s .status .pointer) 0x18) (eqb (codeOf b) k)))
-isCommand k (block m l) s = false
-isCommand k (time n) s = false
-isCommand k answer s = false
-isCommand k (reselection lines) s = false
-isCommand k (request p b q) s = false
-isCommand k free s = false
+unfolding isCommandOf
+isCommand k c s = isCommandOf (λ j. eqb j k) c s
 
 unfoldable pub readsAt : ℕ → Call → State → Bool
 readsAt a (pointer m b) s = false
@@ -44,9 +50,12 @@ readsAt a free s = false
 unfoldable pub isReset : Call → State → Bool
 isReset c s = isCommand 0x00 c s
 
+unfoldable pub isSelectCode : ℕ → Bool
+isSelectCode k = either (eqb k 0x06) (either (eqb k 0x07) (either (eqb k 0x08) (eqb k 0x09)))
+
 unfoldable pub isSelection : Call → State → Bool
-isSelection c s =
-    either (isCommand 0x06 c s) (either (isCommand 0x07 c s) (either (isCommand 0x08 c s) (isCommand 0x09 c s)))
+unfolding isCommandOf isSelectCode
+isSelection c s = isCommandOf isSelectCode c s
 
 unfoldable pub isDisconnect : Call → State → Bool
 isDisconnect c s = both (isCommand 0x04 c s) (isConnected (s .wire .connection))
