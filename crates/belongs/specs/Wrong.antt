@@ -21,7 +21,7 @@ use Rattle.chip.specs.Interrupts.{interrupted, isRunning, raise}
 use Rattle.chip.specs.Commands.{isConnected, isDisconnected, selecting}
 use Rattle.chip.specs.Calls.{Call, Outcome, kind, step}
 use Rattle.chip.specs.declared.State.{State}
-use Rattle.chip.specs.declared.Connection.the-variants.{Disconnected, Selecting, Connected}
+use Rattle.chip.specs.declared.Connection.the-variants.{Disconnected, Connected}
 use Rattle.chip.specs.declared.Running.the-variants.{SelectWithAtn}
 use Rattle.reached.specs.Facts.{isSelect}
 use Rattle.unread.specs.Status.{isSelection, readsAt}
