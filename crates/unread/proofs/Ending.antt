@@ -34,7 +34,7 @@ use Rattle.unread.specs.Because.{ReadsLast}
 use Rattle.unread.specs.Ending.{isEvent, isTime, isRefusal, Untouched, isDataAccess, EndingIsStill, EndingStays}
 use Rattle.chip.proofs.Cases.{by-pick, by-case, by-test, both-first, both-second, either-first, either-rest, either-second, either-last}
 use Rattle.unread.proofs.Choosing.{clash, taken, passed-over, one-or, one-of}
-use Rattle.unread.proofs.Telling.{standing, Standing, disconnects, reads-out, has-read, Tells, silent, moves, selects, settles, begins, raises, reads, resets}
+use Rattle.unread.proofs.Telling.{standing, Standing, disconnects, reads-out, has-read, read-out-quiet, Tells, silent, moves, selects, settles, begins, raises, reads, resets}
 use Rattle.unread.proofs.Host.{invalid-idle, abort-ends, is-disconnect}
 use Rattle.unread.proofs.Told.{told, good-step}
 use Rattle.unread.proofs.Because.{Found, quiet, reading-out, resetting, because-found}
@@ -135,7 +135,7 @@ module _ {c : Call} {s : State} (e : ends s ≡ true) (r : isReset c s ≡ false
   pending-stays (moves x) = refl
   pending-stays (selects f q m) = refl
   pending-stays (settles (disconnects f i)) = clash f d
-  pending-stays (settles (reads-out q)) = clash e (ap isEnding q)
+  pending-stays (settles (reads-out h)) = clash e (ap isEnding (read-out-quiet h))
   pending-stays (settles (has-read q l)) = absurd (n l)
   pending-stays (begins q h x) = clash e (ap isEnding q)
   pending-stays (raises i h x) = found-ends (because-found h)
