@@ -33,7 +33,7 @@ use Rattle.unread.specs.History as H
 use Rattle.unread.specs.History.{NoStatusLost, Orderly}
 use Rattle.unread.specs.Because as B
 use Rattle.unread.specs.Because.{ReadsLast, RaisedBecause, EndingBecause}
-use Rattle.unread.specs.Ending.{EndingIsStill, EndingStays}
+use Rattle.unread.specs.Ending.{isDataRead, EndingIsStill, EndingStays}
 use Rattle.unread.specs.Codes.{EndingsBegun, Unanswered, SelectionsBegun, CodesOnlyBy}
 use Rattle.unread.specs.Wrong as W
 use Rattle.unread.specs.Wrong.{hasty, peeking, mumbling, soft, forgetful, hurried, sluggish, mistaken, meddling, deaf, drops, renames, spills, shrugs}
@@ -193,9 +193,9 @@ renames-lies h = other-code (h .pending-is-owed (callsEnding ++ (time 1 ∷ []))
     other-code e = let z : _≡_ {A = ℕ} 0x42 0x4C = cc in omega arith
 
 pub spills-refused : EndingStays spills → ⊥
-unfolding everything spills W.instead isDropped isReset isDisconnect isCommand
+unfolding everything spills W.instead isDropped isReset isDisconnect isCommand isDataRead
 spills-refused h =
-    let z : _≡_ {A = ℕ} 0 1 = ap (λ (q : Fifo). q .held) (h .bytes-stay (time 1) held refl refl refl) in omega arith
+    let z : _≡_ {A = ℕ} 0 1 = ap (λ (q : Fifo). q .held) (h .bytes-stay (time 1) held refl refl refl refl) in omega arith
 
 pub shrugs-refused : EndingIsStill shrugs → ⊥
 unfolding everything shrugs W.instead

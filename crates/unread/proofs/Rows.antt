@@ -3,7 +3,8 @@
 --   times-out-row answers-row reselects-row                   events
 --   byte-row slice-row                                        reads
 --   no-data no-block                                          reads where no byte waits
---   Emptied block-empties last-stands   what the read of the last incoming byte leads to
+--   data-read data-reachable                                  a read of the Data register where a byte waits; it is never Blind
+--   Emptied block-empties last-stands last-unread   what the read of the last incoming byte leads to
 use mathlib.Core.Path.{_≡_, refl, sym, ap, _∙_}
 use mathlib.Core.Bool.{Bool, true, false}
 use mathlib.Core.List.{List, [], _∷_}
@@ -195,7 +196,7 @@ is-in Unfixed e = clash e refl
 is-in In e = refl
 is-in Out e = clash e refl
 
-data-read : (s : State) → isIncoming (s .transfer .direction) ≡ true → isEmpty (s .fifo) ≡ false
+pub data-read : (s : State) → isIncoming (s .transfer .direction) ≡ true → isEmpty (s .fifo) ≡ false
     → R.dataRead s ≡ done (front (s .fifo)) (settled (setFifo (pop (s .fifo)) s))
 unfolding R.dataRead
 data-read s d e =
@@ -289,7 +290,7 @@ data-empties s d w =
     let e = data-read s d (holds-some (s .fifo) (omega arith)) in
     rw e (rw e at (block-empties (0 ∷ []) s d (omega arith) (omega arith)))
 
-data-reachable : (b : ℕ) (s : State) → R.accessedAt 0x19 false b s ≡ R.dataRead s
+pub data-reachable : (b : ℕ) (s : State) → R.accessedAt 0x19 false b s ≡ R.dataRead s
 unfolding R.accessedAt R.isBlind R.readAt both either pick
 data-reachable b s = by-test (busy s) (λ e. rw e) (λ e. rw e)
 
@@ -311,3 +312,16 @@ last-stands (byte {c} {s} e d w) =
     rw (h .gives, data-reachable (h .byte) s) (emptied-stands (data-empties s d w))
 last-stands (slice {m} {l} {s} g f d v u) =
     rw (good-step (block m l) s g, passed-over (R.blockWritten l s) (R.blockRead l s) f) (emptied-stands (block-empties l s d v u))
+
+-- .. and no byte is unread
+emptied-unread : {s t : State} → Emptied s t → unread t ≡ false
+unfolding unread
+emptied-unread {s} (emptied q e l) = second-fails _ _ (rw (l, settled-empty (s .status .pending) (setFifo q s) e))
+
+pub last-unread : {c : Call} {s : State} → ReadsLast c s → unread (step c s .state) ≡ false
+unfolding R.stepped carried unread
+last-unread (byte {c} {s} e d w) =
+    let h : Reading 0x19 c s = reading 0x19 c s e in
+    rw (h .gives, data-reachable (h .byte) s) (emptied-unread (data-empties s d w))
+last-unread (slice {m} {l} {s} g f d v u) =
+    rw (good-step (block m l) s g, passed-over (R.blockWritten l s) (R.blockRead l s) f) (emptied-unread (block-empties l s d v u))

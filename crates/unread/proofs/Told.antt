@@ -5,7 +5,8 @@
 --   issued         .. of a call that writes a command
 --   reset-told     Reset raises 00
 --   Reading reading   a register read, as the step takes it
---   disconnect-told  Disconnect drops what is pending
+--   access-step    a register access with its address and its mark known
+--   disconnect-gives disconnect-told  Disconnect is taken, and drops what is pending
 --   ReadTold       what a read of 17h answers and leaves: Blind, or the code
 --   status-read    .. of a call that reads 17h
 use mathlib.Core.Path.{_≡_, refl, ap, ap₂, _∙_}
@@ -66,7 +67,7 @@ unfolding step pick
 good-step c s g = rw g
 
 -- a register access with its address and its mark known
-access-step : (m b : ℕ) (s : State) (a : ℕ) (w : Bool) → isGood (register m b) ≡ true → isSet m ≡ w → eqb (s .status .pointer) a ≡ true
+pub access-step : (m b : ℕ) (s : State) (a : ℕ) (w : Bool) → isGood (register m b) ≡ true → isSet m ≡ w → eqb (s .status .pointer) a ≡ true
     → step (register m b) s ≡ plain (R.stepped a (R.accessedAt a w b s))
 unfolding carried R.accessed
 access-step m b s a w g f e =
@@ -159,7 +160,7 @@ status-read c s e =
     (by-case (λ (r : Reply). ReadTold s (plain (R.stepped 0x17 r))) _ (λ b. blind (seen-busy s b) refl refl refl) (λ b. readable (h .byte) s (seen-idle s b)))
 
 -- a Disconnect that finds the controller connected, with no INT, is taken
-disconnect-gives : (b : ℕ) (s : State) → codeOf b ≡ 0x04 → interrupted s ≡ false → isConnected (s .wire .connection) ≡ true
+pub disconnect-gives : (b : ℕ) (s : State) → codeOf b ≡ 0x04 → interrupted s ≡ false → isConnected (s .wire .connection) ≡ true
     → commanded b s ≡ done 0 (disconnected (accepted b s))
 unfolding commanded carriedOut isRefusedBusy isValid isReady entryOf table both either pick
 disconnect-gives b s k i x = by-test (busy s) (λ e. rw (k, i, x, e)) (λ e. rw (k, i, x, e))
