@@ -4,6 +4,9 @@
 --   data-kept         .. and one that does not read leaves the bytes, where the way is not out
 --   reads-front       a read at 19h gives the oldest byte
 --   waits-then        the last byte of a read-out with no code leads to the wait for reselection
+--   waiting read-out-waits            the bytes that wait when an ending has begun
+--   disconnect-drops reset-drops      what drops an ending
+--   Short             a slice has no place for all the bytes that wait
 use mathlib.Core.Path.{_≡_, refl, ap, _∙_}
 use mathlib.Core.Bool.{true, false, not}
 use mathlib.Core.List.{List, [], _∷_}

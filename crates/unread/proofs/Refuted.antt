@@ -173,7 +173,7 @@ sent = after callsFilled fresh
 abbrev held : State
 held = after callsEnding fresh
 
--- .. with the pointer at 18h and at 19h
+-- .. with the pointer at a
 abbrev heldAt : ℕ → State
 heldAt a = after (callsEnding ++ (pointer 1 a ∷ [])) fresh
 

@@ -2,11 +2,12 @@
 -- are Held, except Time, which is Done without effect"; "no state has INT and an ending". Laws over one call, each a predicate of a step
 -- function, from every state. The read-out after a Free at 42h "counts as an ending under every rule", and is one here.
 --   EndingStays f        it begins with every byte that waits, the bytes are read in their order, and only a Reset, a Disconnect while
---                        connected or the read of the last byte ends it. The first two leave nothing of it
+--                        connected or the read of the last byte ends it. The first two drop its code, its command and its bytes
 --   EndingIsStill f      no bus event changes the controller during it
 --   Untouched f c s      the call c, made in s, changes nothing, and the board is not told that it was taken, but for Time
 --   Waits q s t          in t the bytes q wait, in the way of data of s
---   Dropped t, ResetDropped t   what a Disconnect that is taken, and a Reset, leave of command, bytes, what is pending and the bus
+--   Dropped t            what a Disconnect that is taken leaves: nothing pending, Disconnected, no command, no way, no byte, no ATN, no ACK
+--   ResetDropped t       .. and a Reset, which leaves INT
 --   isEvent isTime       the call is a bus event; it is a Time
 --   isRefusal a          the answer says "nothing changed": Held, Out of place, Bad number, Reselection ignored
 --   isDataAccess c s     the call c, made in s, is an access to the Data register: at 19h, or a block
