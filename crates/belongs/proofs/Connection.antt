@@ -51,7 +51,7 @@ use Rattle.unread.proofs.Bus.{remembered-keeps}
 use Rattle.unread.proofs.Told.{good-step, Issued, issued, disconnect-gives}
 use Rattle.unread.proofs.Rows.{taken-command, abort-taken, kept-free}
 use Rattle.unread.proofs.Asked.{transfer-freed}
-use Rattle.unread.proofs.Ending.{ending-stays}
+use Rattle.unread.proofs.Bytes.{ending-stays}
 use Rattle.unread.proofs.Placed.{stands-placed}
 use Rattle.belongs.specs.Connection as C
 use Rattle.belongs.specs.Connection.{letsGo, Goes, ConnectionGoes}

@@ -1,11 +1,13 @@
 -- The rows of the table that Requests and a Free make: the step computes what each says.
 --   Seen seen shown    of a state, or a reply: code, what is pending, and what is unread
 --   Raised k t         t shows INT with the code k
---   Ended k w t        an ending with k led to t: raised with nothing unread, or pending where w says that bytes are unread
+--   Load load          of a state: the bytes that wait, and their way
+--   Ended k w v t      an ending with k led to t: raised with nothing unread, or pending where w says that bytes are unread, which with their
+--                      way are then v
 --   raised-by ended-by .. of a state that `raise` or `endingWith` made
 --   open-event         an event that INT does not hold back
 --   completes-row saves-row overruns-row surprises-row spoils-row last-row asks-row   Requests
---   info-free-row cuts-transfer-row leaves-transfer-row idle-free-row                 Free
+--   info-free-row cuts-transfer-row leaves-transfer-row read-out-row idle-free-row    Free
 --   transfer-freed     .. while a Select-And-Transfer runs
 use mathlib.Core.Path.{_≡_, refl, ap, ap₂, _∙_}
 use mathlib.Core.Bool.{Bool, true, false, not}
@@ -15,7 +17,8 @@ use borrow.Author.Tests.{not-true, not-false}
 use Rattle.chip.specs.Choice.{pick, both, either}
 use Rattle.chip.specs.Phases.{phaseOf, phaseNumber, comesIn, samePhase, isNoted, isMessageOut, isCommandOut}
 use Rattle.chip.specs.Lines.{idi}
-use Rattle.chip.specs.Fifo.{isEmpty, hasRoom}
+use Rattle.chip.specs.Fifo.{isEmpty, hasRoom, push}
+use Rattle.chip.specs.State.{setFifo}
 use Rattle.chip.specs.Count.{noneLeft, lowered}
 use Rattle.chip.specs.Interrupts.{isInterrupt, isEnding, endingWith, raise, outgoingDropped, withoutOutgoing, closed, unread, isIncoming, unlessInterrupt}
 use Rattle.chip.specs.TransferInfo as I
@@ -37,7 +40,7 @@ use Rattle.chip.specs.declared.Phase.{Phase}
 use Rattle.chip.specs.declared.Phase.the-variants.{DataOut, DataIn, CommandOut, StatusIn, UnspecifiedOut, UnspecifiedIn, MessageOut, MessageIn}
 use Rattle.chip.specs.declared.Fifo.{Fifo}
 use Rattle.chip.specs.declared.Pending.{Pending}
-use Rattle.chip.specs.declared.Pending.the-variants.{Interrupt, Ending}
+use Rattle.chip.specs.declared.Pending.the-variants.{Interrupt, Ending, ReadOut}
 use Rattle.unread.specs.Because.{Quiet, Offered, LastMessage, isIdle, isOut, isSpent, stage, expects, expectsBody, expectsLate, wants, fits, halts, isBeforeStatus}
 use Rattle.chip.proofs.Cases.{by-pick, by-test, both-first, both-second, either-second, either-first, either-rest}
 use Rattle.unread.proofs.Choosing.{taken, passed-over, clash, not-first, second-fails, second-holds}
@@ -60,10 +63,18 @@ pub record Raised (k : ℕ) (t : State) : Type 0 where
   pub code : t .status .code ≡ k
   pub int : t .status .pending ≡ Interrupt
 
-pub record Ended (k : ℕ) (w : Bool) (t : State) : Type 0 where
+pub record Load : Type 0 where
+  pub fifo : Fifo
+  pub direction : Direction
+
+abbrev pub load : State → Load
+load t = record { fifo = t .fifo; direction = t .transfer .direction }
+
+pub record Ended (k : ℕ) (w : Bool) (v : Load) (t : State) : Type 0 where
   pub raised-now : w ≡ false → Raised k t
   pub all-read : w ≡ false → unread t ≡ false
   pub read-first : w ≡ true → t .status .pending ≡ Ending k
+  pub kept : w ≡ true → load t ≡ v
 
 pub raised-by : {k : ℕ} {t : State} (u : State) → seen t ≡ seen (raise k u) → Raised k t
 unfolding raise
@@ -84,13 +95,17 @@ raise-unread k u = by-way (u .transfer .direction)
     by-way In = refl
     by-way Out = refl
 
-pub ended-by : {k : ℕ} {w : Bool} {t : State} (u : State) → seen t ≡ seen (endingWith k u) → unread u ≡ w → Ended k w t
+abbrev loadSeen : Seen → Load
+loadSeen x = record { fifo = x .fifo; direction = x .direction }
+
+pub ended-by : {k : ℕ} {w : Bool} {t : State} (u : State) → seen t ≡ seen (endingWith k u) → unread u ≡ w → Ended k w (load u) t
 unfolding endingWith pick
 ended-by {k} {t = t} u e f =
     record {
       raised-now = λ h. raised-by u (rw (f, h) at e);
       all-read = λ h. unread-seen t (raise k u) (rw (f, h) at e) ∙ raise-unread k u ∙ f ∙ h;
       read-first = λ h. ap (λ (x : Seen). x .pending) (rw (f, h) at e);
+      kept = λ h. ap loadSeen (rw (f, h) at e);
     }
 
 -- an event that nothing holds back
@@ -285,7 +300,7 @@ module _ (n b m : ℕ) (s : State) where
   info-reaches {p} o t e = reaches o ∙ ap shown (ap (λ (r : Running). E.servedBy r p b (isSet m) s) t ∙ e)
 
   pub completes-row : Offered n b m MessageIn s → isTransfer (s .transfer .running) ≡ true → stage s ≡ AfterStatus → eqb b 0x00 ≡ true
-      → halts m s ≡ false → Ended 0x16 (unread s) (step (request n b m) s .state)
+      → halts m s ≡ false → Ended 0x16 (unread s) (load s) (step (request n b m) s .state)
   unfolding X.requestAt X.takeComplete X.completed I.parityNoted unread both
   completes-row o t at e h =
       ended-by _
@@ -305,7 +320,7 @@ module _ (n b m : ℕ) (s : State) where
   before-status Elsewhere e = clash e refl
 
   pub saves-row : Offered n b m MessageIn s → isTransfer (s .transfer .running) ≡ true → isBeforeStatus (stage s) ≡ true → eqb b 0x02 ≡ true
-      → halts m s ≡ false → Ended 0x21 (unread s) (step (request n b m) s .state)
+      → halts m s ≡ false → Ended 0x21 (unread s) (load s) (step (request n b m) s .state)
   unfolding X.takeMessage X.takeSave I.parityNoted unread
   saves-row o t g e h =
       ended-by _
@@ -313,13 +328,13 @@ module _ (n b m : ℕ) (s : State) where
       refl
 
   over-row : {p : Phase} → Offered n b m p s → s .transfer .running ≡ TransferInfo → wants p b s ≡ false
-      → Ended (I.overCode p s) (unread s) (step (request n b m) s .state)
+      → Ended (I.overCode p s) (unread s) (load s) (step (request n b m) s .state)
   unfolding I.infoRequest I.infoOver unread
   over-row {p} o t w =
       ended-by _ (info-reaches o t (passed-over _ _ (rw (← (info-wants p b s t)) w) ∙ open-event s _ (o .quiet))) refl
 
   pub overruns-row : {p : Phase} → Offered n b m p s → isIdle (s .transfer .running) ≡ false → isSpent s ≡ true
-      → Ended (0x18 + phaseNumber p) (unread s) (step (request n b m) s .state)
+      → Ended (0x18 + phaseNumber p) (unread s) (load s) (step (request n b m) s .state)
   unfolding isSpent I.overCode pick
   overruns-row {p} o r e =
       let t : s .transfer .running ≡ TransferInfo = informs _ r (not-true _ (both-first _ _ e)) in
@@ -327,7 +342,7 @@ module _ (n b m : ℕ) (s : State) where
       rw l at (over-row o t (info-wants p b s t ∙ second-fails _ _ (rw l)))
 
   pub surprises-row : {p : Phase} → Offered n b m p s → isIdle (s .transfer .running) ≡ false → wants p b s ≡ false → isSpent s ≡ false
-      → Ended (0x48 + phaseNumber p) (unread s) (step (request n b m) s .state)
+      → Ended (0x48 + phaseNumber p) (unread s) (load s) (step (request n b m) s .state)
   unfolding X.unexpected I.overCode unread pick
   surprises-row {p} o r w e =
       by-test (isTransfer (s .transfer .running))
@@ -338,7 +353,7 @@ module _ (n b m : ℕ) (s : State) where
       (λ t. let i : s .transfer .running ≡ TransferInfo = informs _ r t in rw (← (info-spent s i), e) at (over-row o i w))
 
   pub spoils-row : {p : Phase} → Offered n b m p s → isIdle (s .transfer .running) ≡ false → wants p b s ≡ true → comesIn p ≡ true
-      → fits p s ≡ true → halts m s ≡ true → Ended 0x43 (unread s) (step (request n b m) s .state)
+      → fits p s ≡ true → halts m s ≡ true → Ended 0x43 (unread s) (load s) (step (request n b m) s .state)
   unfolding I.infoRequest I.infoIn I.halted unread fits both
   spoils-row {p} o r w c f h =
       by-test (isTransfer (s .transfer .running))
@@ -356,7 +371,7 @@ module _ (n b m : ℕ) (s : State) where
       room e = either-second _ _ f e
 
   -- the last Message In byte: it is unread itself, where it comes in
-  pub last-row : LastMessage n b m s → Ended 0x20 (isIncoming (s .transfer .direction)) (step (request n b m) s .state)
+  pub last-row : LastMessage n b m s → Ended 0x20 (isIncoming (s .transfer .direction)) (load (setFifo (push b (s .fifo)) s)) (step (request n b m) s .state)
   unfolding I.infoRequest I.infoIn I.infoTaken I.takenIn I.parityNoted lowered unread both
   last-row l =
       ended-by _
@@ -391,7 +406,7 @@ module _ (s : State) (q : Quiet s) (x : s .wire .connection ≡ Connected) where
       is-good : isGood free ≡ true
       is-good = unfold isGood in refl
 
-  pub info-free-row : s .transfer .running ≡ TransferInfo → Ended (I.infoFreeCode s) (unread s) (step free s .state)
+  pub info-free-row : s .transfer .running ≡ TransferInfo → Ended (I.infoFreeCode s) (unread s) (load s) (step free s .state)
   unfolding E.busFree unread
   info-free-row t =
       ended-by _ (free-reaches (ap (λ (r : Running). E.freedFrom r s) t ∙ open-event s _ q)) refl
@@ -408,15 +423,22 @@ module _ (s : State) (q : Quiet s) (x : s .wire .connection ≡ Connected) where
       by-running TransferInfo e = clash e refl
 
   pub cuts-transfer-row : isTransfer (s .transfer .running) ≡ true → eqb (s .registers .phase) 0x42 ≡ false
-      → Ended 0x41 (unread s) (step free s .state)
+      → Ended 0x41 (unread s) (load s) (step free s .state)
   unfolding X.transferFree E.busFree unread
   cuts-transfer-row t e = ended-by _ (free-reaches (transfer-freed t ∙ passed-over _ _ e ∙ open-event s _ q)) refl
 
   pub leaves-transfer-row : isTransfer (s .transfer .running) ≡ true → eqb (s .registers .phase) 0x42 ≡ true → idi s ≡ true
-      → Ended 0x85 (unread s) (step free s .state)
+      → Ended 0x85 (unread s) (load s) (step free s .state)
   unfolding X.transferFree X.freeAfterDisconnect E.busFree unread
   leaves-transfer-row t e d =
       ended-by _ (free-reaches (transfer-freed t ∙ taken _ _ e ∙ taken _ _ d ∙ open-event s _ q)) refl
+
+  pub read-out-row : isTransfer (s .transfer .running) ≡ true → eqb (s .registers .phase) 0x42 ≡ true → idi s ≡ false → unread s ≡ true
+      → (step free s .state .status .pending ≡ ReadOut) × (load (step free s .state) ≡ load s)
+  unfolding X.transferFree X.freeAfterDisconnect X.freeToWait E.busFree
+  read-out-row t e d u =
+      let h = free-reaches (transfer-freed t ∙ taken _ _ e ∙ passed-over _ _ d ∙ taken _ _ u ∙ open-event s _ q) in
+      (ap (λ (x : Seen). x .pending) h, ap loadSeen h)
 
   pub idle-free-row : isIdle (s .transfer .running) ≡ true → Raised 0x85 (step free s .state)
   unfolding E.idleFree

@@ -1,6 +1,6 @@
 -- The table of specs/Because.antt is sound and complete for the step.
 --   raised-because   a call raises a code exactly where the table says so, and that code
---   ending-because   an ending begins exactly where the table says so
+--   ending-because   an ending begins exactly where the table says so, and a read-out
 --   brings-row reads-row because-row   what each row says, the step does
 --   Found because-found   what a row finds pending, and brings-quiet of those that end a running command
 use mathlib.Core.Path.{_≡_, refl, ap}
@@ -8,7 +8,7 @@ use mathlib.Core.Bool.{true, false}
 use mathlib.Core.Logic.{_⊎_, inl, inr, ⊎-elim}
 use Prim.Native.Nat.{ℕ}
 use Rattle.chip.specs.Choice.{pick}
-use Rattle.chip.specs.Interrupts.{interrupted, isInterrupt, withoutInterrupt, unread}
+use Rattle.chip.specs.Interrupts.{interrupted, isInterrupt, isEnding, withoutInterrupt, unread}
 use Rattle.chip.specs.TransferInfo.{infoFreeCode}
 use Rattle.chip.specs.Calls.{Call, step}
 use Rattle.chip.specs.declared.State.{State}
@@ -16,19 +16,19 @@ use Rattle.chip.specs.declared.Pending.{Pending}
 use Rattle.chip.specs.declared.Pending.the-variants.{Nothing, Interrupt, Ending, ReadOut}
 use Rattle.unread.specs.Status.{isReset}
 use Rattle.unread.specs.Because as B
-use Rattle.unread.specs.Because.{Quiet, Brings, Begins, ReadsLast, ReadsOut, Because, RaisedBecause, EndingBecause}
+use Rattle.unread.specs.Because.{Quiet, Brings, Begins, BeginsReadOut, ReadsLast, ReadsOut, Because, RaisedBecause, EndingBecause}
 use Rattle.chip.proofs.Cases.{by-test}
 use Rattle.unread.proofs.Choosing.{clash}
-use Rattle.unread.proofs.Telling.{settles-plain, plain-int, cleared-int, Standing, Tells, isPlain, silent, moves, selects, settles, begins, raises, reads, resets}
+use Rattle.unread.proofs.Telling.{disconnects, reads-out, has-read, settles-plain, plain-int, cleared-int, Standing, Tells, isPlain, silent, moves, selects, settles, begins, raises, reads, resets}
 use Rattle.unread.proofs.Told.{told, reset-told}
 use Rattle.unread.proofs.Unread.{raised-from-quiet, raised-sets-int, raised-anew, raised-reset}
 use Rattle.unread.proofs.Asked as A
-use Rattle.unread.proofs.Asked.{Raised, Ended}
+use Rattle.unread.proofs.Asked.{Raised, load, Ended}
 use Rattle.unread.proofs.Rows as W
 
 -- complete
 
-pub brings-row : {c : Call} {s : State} {k : ℕ} → Brings c s k → Ended k (unread s) (step c s .state)
+pub brings-row : {c : Call} {s : State} {k : ℕ} → Brings c s k → Ended k (unread s) (load s) (step c s .state)
 unfolding infoFreeCode pick
 brings-row (B.completes {n} {b} {m} {s} o t g e h) = A.completes-row n b m s o t g e h
 brings-row (B.overruns {n} {b} {m} {p} {s} o r e) = A.overruns-row n b m s o r e
@@ -41,10 +41,10 @@ brings-row (B.surprises {n} {b} {m} {p} {s} o r w e) = A.surprises-row n b m s o
 brings-row (B.leaves-info {s} q x r e) = rw e at (A.info-free-row s q x r)
 brings-row (B.leaves-transfer {s} q x r e d) = A.leaves-transfer-row s q x r e d
 
-pub reads-row : {c : Call} {s : State} {k : ℕ} → ReadsOut c s k → Ended k false (step c s .state)
+pub reads-row : {c : Call} {s : State} {k : ℕ} → ReadsOut c s k → Ended k false (load s) (step c s .state)
 reads-row {k = k} h = by-last (h .last) (h .ending)
   where
-    by-last : {c : Call} {s : State} → ReadsLast c s → s .status .pending ≡ Ending k → Ended k false (step c s .state)
+    by-last : {c : Call} {s : State} → ReadsLast c s → s .status .pending ≡ Ending k → Ended k false (load s) (step c s .state)
     by-last (B.byte {c} {s} e d w) p = W.byte-row c s k e d w p
     by-last (B.slice {m} {l} {s} g f d v u) p = W.slice-row m l s k g f d v u p
 
@@ -65,6 +65,9 @@ because-row (B.asks {n} {b} {m} {p} {s} o r f) = A.asks-row n b m s o r f
 begins-row : {c : Call} {s : State} {k : ℕ} → Begins c s k → step c s .state .status .pending ≡ Ending k
 begins-row (B.brings-unread h u) = brings-row h .read-first u
 begins-row (B.keeps-last {n} {b} {m} {s} l d) = A.last-row n b m s l .read-first d
+
+read-out-row : {c : Call} {s : State} → BeginsReadOut c s → step c s .state .status .pending ≡ ReadOut
+read-out-row (B.leaves-unread {s} q x r e d u) = A.read-out-row s q x r e d u .0
 
 -- what a row finds: nothing is pending, or an ending whose last byte is read, or it is Reset's
 
@@ -136,6 +139,25 @@ begun {s = s} j (reads d a) e = inl (ended-before (s .status .pending) e)
     ended-before ReadOut e = e
 begun j (resets d x) e = clash refl (ap isInterrupt e)
 
+read-out-begun : {c : Call} {s : State} {z : Standing} → Tells c s z → z .pending ≡ ReadOut
+    → (s .status .pending ≡ ReadOut) ⊎ BeginsReadOut c s
+read-out-begun (silent a) e = inl e
+read-out-begun (moves x) e = inl e
+read-out-begun (selects f q x b n) e = inl e
+read-out-begun (settles (disconnects f i)) e = clash (ap isEnding e) refl
+read-out-begun (settles (reads-out h)) e = inr h
+read-out-begun (settles (has-read f l)) e = clash (ap isEnding e) refl
+read-out-begun (begins q h x) e = clash (ap isPlain e) refl
+read-out-begun (raises i h x) e = clash (ap isEnding e) refl
+read-out-begun {s = s} (reads d a) e = inl (begun-before (s .status .pending) e)
+  where
+    begun-before : (q : Pending) → withoutInterrupt q ≡ ReadOut → q ≡ ReadOut
+    begun-before Nothing e = e
+    begun-before Interrupt e = clash (ap isEnding e) refl
+    begun-before (Ending k) e = e
+    begun-before ReadOut e = e
+read-out-begun (resets d x) e = clash (ap isEnding e) refl
+
 pub raised-because : RaisedBecause step
 raised-because =
     record {
@@ -149,4 +171,10 @@ raised-because =
     }
 
 pub ending-because : EndingBecause step
-ending-because = record { sound = λ c s k. begun k (told c s .tells); complete = λ c s k. begins-row }
+ending-because =
+    record {
+      sound = λ c s k. begun k (told c s .tells);
+      complete = λ c s k. begins-row;
+      read-out-sound = λ c s. read-out-begun (told c s .tells);
+      read-out-complete = λ c s. read-out-row;
+    }

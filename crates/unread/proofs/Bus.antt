@@ -383,7 +383,7 @@ module _ (s : State) where
     transfer-free-tells r =
         by-case Leaves _
         (λ e. by-case Leaves _ (λ d. unless-int _ (λ i. brought _ refl refl refl (q i) (B.leaves-transfer (q i) x r e d)))
-        (λ d. by-pick Leaves _ (unless-int _ (λ i. so (settles (reads-out (q i))))) (so (moves refl))))
+        (λ d. by-case Leaves _ (λ u. unless-int _ (λ i. so (settles (reads-out (B.leaves-unread (q i) x r e d u))))) (λ u. so (moves refl))))
         (λ e. unless-int _ (λ i. brought _ refl refl refl (q i) (B.cuts-transfer (q i) x r e)))
 
     freed-from : (r : Running) → s .transfer .running ≡ r → Leaves (E.freedFrom r s)

@@ -1,7 +1,7 @@
--- The laws of specs/Ending.antt hold of the step.
---   ending-is-still   in an ending no bus event changes the controller
---   ending-stays      only a Reset, a Disconnect while connected or the read of its last byte ends it
---   ending-bytes      .. and commands other than the first two leave its bytes
+-- In an ending no bus event changes the controller, and what the host does leaves what is pending. Bytes.antt has the rest of specs/Ending.antt.
+--   ending-is-still   the law of the bus events
+--   pending-stays     only a Reset, a Disconnect while connected or the read of its last byte ends an ending
+--   Stays host-stays  every call of the host but these and accesses to the Data register leaves FIFO, command, way and connection
 --   Refuses refuses   of a reply, or an outcome: nothing changed, and the answer is a refusal
 use mathlib.Core.Path.{_≡_, refl, ap, _∙_}
 use mathlib.Core.Bool.{Bool, true, false, not}
@@ -13,8 +13,7 @@ use lib.ListN.{getD}
 use Rattle.chip.specs.Choice.{pick, both, either}
 use Rattle.chip.specs.Phases.{phaseOf}
 use Rattle.chip.specs.Lines.{codeOf, qualifies}
-use Rattle.chip.specs.State.{setFifo}
-use Rattle.chip.specs.Interrupts.{isEnding, ends, isRunning, busy, withoutInterrupt, settledBy}
+use Rattle.chip.specs.Interrupts.{isEnding, ends, isRunning, busy, withoutInterrupt}
 use Rattle.chip.specs.Commands.{isTwo, isValid, isRefusedBusy, entryOf, table, leftOut, carriedOut, accepted, commanded}
 use Rattle.chip.specs.Answers.{done, held}
 use Rattle.chip.specs.Registers as R
@@ -29,16 +28,15 @@ use Rattle.chip.specs.declared.Pending.{Pending}
 use Rattle.chip.specs.declared.Pending.the-variants.{Nothing, Interrupt, Ending, ReadOut}
 use Rattle.chip.specs.declared.Connection.{Connection}
 use Rattle.chip.specs.declared.Connection.the-variants.{Disconnected, Selecting, Waiting, Connected}
-use Rattle.unread.specs.Status.{isCommand, isReset, isDisconnect, isDropped}
+use Rattle.unread.specs.Status.{isCommand, isReset, isDisconnect}
 use Rattle.unread.specs.Because.{ReadsLast}
-use Rattle.unread.specs.Ending.{isEvent, isTime, isRefusal, Untouched, isDataAccess, EndingIsStill, EndingStays}
+use Rattle.unread.specs.Ending.{isEvent, isTime, isRefusal, Untouched, isDataAccess, EndingIsStill}
 use Rattle.chip.proofs.Cases.{by-pick, by-case, by-test, both-first, both-second, either-first, either-rest, either-second, either-last}
 use Rattle.unread.proofs.Choosing.{clash, taken, passed-over, one-or, one-of}
-use Rattle.unread.proofs.Telling.{standing, Standing, disconnects, reads-out, has-read, Tells, silent, moves, selects, settles, begins, raises, reads, resets}
+use Rattle.unread.proofs.Telling.{Standing, disconnects, reads-out, has-read, read-out-quiet, Tells, silent, moves, selects, settles, begins, raises, reads, resets}
 use Rattle.unread.proofs.Host.{invalid-idle, abort-ends, is-disconnect}
-use Rattle.unread.proofs.Told.{told, good-step}
+use Rattle.unread.proofs.Told.{good-step}
 use Rattle.unread.proofs.Because.{Found, quiet, reading-out, resetting, because-found}
-use Rattle.unread.proofs.Rows.{last-stands}
 
 -- no bus event
 
@@ -130,12 +128,12 @@ module _ {c : Call} {s : State} (e : ends s ≡ true) (r : isReset c s ≡ false
   found-ends (reading-out h) = absurd (n (h .last))
   found-ends (resetting f) = clash f r
 
-  pending-stays : {z : Standing} → Tells c s z → z .pending ≡ s .status .pending
+  pub pending-stays : {z : Standing} → Tells c s z → z .pending ≡ s .status .pending
   pending-stays (silent a) = refl
   pending-stays (moves x) = refl
   pending-stays (selects f q x b m) = refl
   pending-stays (settles (disconnects f i)) = clash f d
-  pending-stays (settles (reads-out q)) = clash e (ap isEnding q)
+  pending-stays (settles (reads-out h)) = clash e (ap isEnding (read-out-quiet h))
   pending-stays (settles (has-read q l)) = absurd (n l)
   pending-stays (begins q h x) = clash e (ap isEnding q)
   pending-stays (raises i h x) = found-ends (because-found h)
@@ -267,26 +265,3 @@ module _ (s : State) (e : ends s ≡ true) where
   host-stays (reselection lines) v r d n = clash refl v
   host-stays (request p b q) v r d n = clash refl v
   host-stays free v r d n = clash refl v
-
-  bytes-stay : (c : Call) → isReset c s ≡ false → isDisconnect c s ≡ false → isDataAccess c s ≡ false → step c s .state .fifo ≡ s .fifo
-  bytes-stay c r d n =
-      by-test (isEvent c) (λ v. ap (λ (t : State). t .fifo) (ending-is-still c s e v .same)) (λ v. host-stays c v r d n .bytes)
-
--- the read-out with no code to come, when its last byte is read
-waits-then : {c : Call} {s : State} → s .status .pending ≡ ReadOut → ReadsLast c s
-    → (step c s .state .status .pending ≡ Nothing) × (step c s .state .wire .connection ≡ Waiting)
-unfolding settledBy
-waits-then {c} {s} p l =
-    let h = last-stands l in
-    let z : standing (step c s .state) ≡ standing (settledBy ReadOut (setFifo (h .0) s)) =
-    h .1 ∙ ap (λ (q : Pending). standing (settledBy q (setFifo (h .0) s))) p in
-    (ap (λ (x : Standing). x .pending) z, ap (λ (x : Standing). x .connection) z)
-
-pub ending-stays : EndingStays step
-unfolding isDropped
-ending-stays =
-    record {
-      stays = λ c s e d n. pending-stays e (either-first _ _ d) (either-rest (isReset c s) _ d) n (told c s .tells);
-      bytes-stay = λ c s e d n. bytes-stay s e c (either-first _ _ d) (either-rest (isReset c s) _ d) n;
-      waits-then = λ c s p l. waits-then p l;
-    }

@@ -19,7 +19,7 @@ use Rattle.unread.specs.History as H
 use Rattle.unread.specs.History.{Happening, Owed, nothing, unread, coming, owedBy, isComing, noted, readBy, begunBy, history, run, lastCode, owedAfter, Orderly, Follows, isRaising, hasRead, NoStatusLost}
 use Rattle.chip.proofs.Cases.{by-case, both-first, both-second, either-rest}
 use Rattle.unread.proofs.Choosing.{clash}
-use Rattle.unread.proofs.Telling.{disconnects, reads-out, has-read, Standing, Tells, silent, moves, selects, settles, begins, raises, reads, resets}
+use Rattle.unread.proofs.Telling.{disconnects, reads-out, has-read, read-out-quiet, Standing, Tells, silent, moves, selects, settles, begins, raises, reads, resets}
 use Rattle.unread.proofs.Told.{told, reset-told, disconnect-told, ReadTold, blind, read, status-read}
 use Rattle.unread.proofs.Unread.{int-pending, raised-from-quiet, raised-sets-int, raised-anew}
 use Rattle.unread.proofs.Because.{Found, quiet, reading-out, resetting, because-found, raised-because}
@@ -96,7 +96,7 @@ calm-leads {s = s} (silent a) r n d e = rw (same-begun (s .status .pending)) (st
 calm-leads {s = s} (moves x) r n d e = rw (same-begun (s .status .pending)) (still refl)
 calm-leads {s = s} (selects f q x b m) r n d e = rw (same-begun (s .status .pending)) (still refl)
 calm-leads {s = s} (settles (disconnects f i)) r n d e = still (sym (owes-nothing (s .status .pending) i (rw f at d)))
-calm-leads (settles (reads-out q)) r n d e = still (ap owedBy (sym q))
+calm-leads (settles (reads-out h)) r n d e = still (ap owedBy (sym (read-out-quiet h)))
 calm-leads (settles (has-read q l)) r n d e = still (ap owedBy (sym q))
 calm-leads (begins q h x) r n d e = rw q (begin refl)
 calm-leads (raises i h x) r n d e = absurd (n i refl)

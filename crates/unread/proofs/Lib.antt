@@ -9,6 +9,7 @@ pub mod Asked
 pub mod Rows
 pub mod Because
 pub mod Ending
+pub mod Bytes
 pub mod Placed
 pub mod Codes
 pub mod Refuted

@@ -1,26 +1,31 @@
 -- Each law refuses a wrong step: `Law wrong → ⊥`. What is wrong is said in specs/Wrong.antt.
---   callsEnding   calls from a fresh controller that lead to an ending
+--   callsFilled callsEnding   calls from a fresh controller that lead to a byte that waits, and to an ending with it
 --   hasty-refused peeking-refused soft-refused           by UnreadStatusKept
 --   mumbling-refused                                     by CodeMovesOnlyByRaising
 --   hasty-loses peeking-hides mumbling-lies forgetful-stale   by NoStatusLost
 --   sluggish-refused hurried-refused                     by RaisedBecause
---   hurried-ends                                         by EndingBecause
+--   hurried-ends invents-refused                         by EndingBecause
 --   meddling-refused                                     by EndingsBegun
 --   deaf-refused                                         by SelectionsBegun
 --   mistaken-refused deaf-times-out                      by CodesOnlyBy
---   drops-refused renames-refused spills-refused         by EndingStays
+--   drops-refused renames-refused spills-refused blanks-refused eats-refused hollows-refused shuts-refused   by EndingStays
 --   drops-loses renames-lies                             by NoStatusLost
 --   shrugs-refused                                       by EndingIsStill
 use mathlib.Core.Path.{_≡_, refl, ap}
 use mathlib.Core.List.{List, [], _∷_, _++_}
+use mathlib.Core.Logic.{⊎-elim}
 use Prim.Native.Nat.{ℕ}
 use native.Mathlib.Omega.{arith}
 use lib.ListN.{replicate}
 use Rattle.chip.specs.State.{fresh, setCode, setPending, setPointer, setTimeout, setConnection, setRunning, setDirection, setCount, setFifo}
-use Rattle.chip.specs.Interrupts.{isInterrupt, isEnding}
+use Rattle.chip.specs.Interrupts.{isInterrupt, isEnding, isIncoming}
 use Rattle.chip.specs.Calls.{Call, pointer, auxiliary, register, time, answer, request, free, kind, after}
 use Rattle.chip.specs.declared.State.{State}
 use Rattle.chip.specs.declared.Fifo.{Fifo}
+use Rattle.chip.specs.declared.Transfer.{Transfer}
+use Rattle.chip.specs.declared.Answer.{Answer}
+use Rattle.chip.specs.declared.Answer.the-variants.{Done}
+use Rattle.chip.specs.declared.Phase.the-variants.{UnspecifiedOut}
 use Rattle.chip.specs.declared.Pending.the-variants.{Interrupt, Ending}
 use Rattle.chip.specs.declared.Connection.the-variants.{Selecting, Connected}
 use Rattle.chip.specs.declared.Running.the-variants.{SelectWithoutAtn, TransferInfo}
@@ -32,10 +37,10 @@ use Rattle.unread.specs.History as H
 use Rattle.unread.specs.History.{NoStatusLost, Orderly}
 use Rattle.unread.specs.Because as B
 use Rattle.unread.specs.Because.{ReadsLast, RaisedBecause, EndingBecause}
-use Rattle.unread.specs.Ending.{EndingIsStill, EndingStays}
+use Rattle.unread.specs.Ending.{isDataRead, EndingIsStill, EndingStays}
 use Rattle.unread.specs.Codes.{EndingsBegun, Unanswered, SelectionsBegun, CodesOnlyBy}
 use Rattle.unread.specs.Wrong as W
-use Rattle.unread.specs.Wrong.{hasty, peeking, mumbling, soft, forgetful, hurried, sluggish, mistaken, meddling, deaf, drops, renames, spills, shrugs}
+use Rattle.unread.specs.Wrong.{hasty, peeking, mumbling, soft, forgetful, hurried, sluggish, mistaken, meddling, deaf, drops, renames, spills, shrugs, invents, blanks, eats, hollows, shuts}
 use Rattle.unread.proofs.Choosing.{clash}
 use Rattle.unread.proofs.Because.{because-row}
 use Rattle.unread.proofs.Codes.{since-began, since-last, time-ends-nothing}
@@ -139,10 +144,9 @@ deaf-times-out h = answered-since (h .unanswered callsAnswered (time 1) (record 
 
 -- an ending
 
--- from a fresh controller: a Select-And-Transfer without ATN, the Target takes the command, sends one byte, and then asks for a phase that
--- is not expected: an ending with 4Ch, and one byte to read
-abbrev pub callsEnding : List Call
-callsEnding =
+-- from a fresh controller: a Select-And-Transfer without ATN, the Target takes the command and sends one byte
+abbrev pub callsFilled : List Call
+callsFilled =
     pointer 1 0x14
     ∷ register 1 13
     ∷ pointer 1 0x18
@@ -155,12 +159,22 @@ callsEnding =
     ∷ request 2 0 0
     ∷ request 2 0 0
     ∷ request 1 0x5A 0
-    ∷ request 4 0 0
     ∷ []
 
--- the state that they lead to
+-- .. and then it asks for a phase that is not expected: an ending with 4Ch, and one byte to read
+abbrev pub callsEnding : List Call
+callsEnding = callsFilled ++ (request 4 0 0 ∷ [])
+
+-- the states that they lead to
+abbrev sent : State
+sent = after callsFilled fresh
+
 abbrev held : State
 held = after callsEnding fresh
+
+-- .. with the pointer at a
+abbrev heldAt : ℕ → State
+heldAt a = after (callsEnding ++ (pointer 1 a ∷ [])) fresh
 
 no-last : (n : ℕ) → ReadsLast (time n) held → ⊥
 unfolding readsAt
@@ -192,10 +206,45 @@ renames-lies h = other-code (h .pending-is-owed (callsEnding ++ (time 1 ∷ []))
     other-code e = let z : _≡_ {A = ℕ} 0x42 0x4C = cc in omega arith
 
 pub spills-refused : EndingStays spills → ⊥
-unfolding everything spills W.instead isDropped isReset isDisconnect isCommand
+unfolding everything spills W.instead isDropped isReset isDisconnect isCommand isDataRead
 spills-refused h =
-    let z : _≡_ {A = ℕ} 0 1 = ap (λ (q : Fifo). q .held) (h .bytes-stay (time 1) held refl refl refl) in omega arith
+    let z : _≡_ {A = ℕ} 0 1 = ap (λ (q : Fifo). q .held) (h .bytes-stay (time 1) held refl refl refl refl) in omega arith
 
 pub shrugs-refused : EndingIsStill shrugs → ⊥
 unfolding everything shrugs W.instead
 shrugs-refused h = clash (h (request 1 0x5B 0) held refl refl .not-taken) refl
+
+no-read-out : (n : ℕ) → B.BeginsReadOut (time n) sent → ⊥
+no-read-out n h = elim h [ ]
+
+pub invents-refused : EndingBecause invents → ⊥
+unfolding everything invents W.instead
+invents-refused h = ⊎-elim (λ e. clash (ap isEnding e) refl) (no-read-out 1) (h .read-out-sound (time 1) sent refl)
+
+pub blanks-refused : EndingStays blanks → ⊥
+unfolding everything blanks readsAt
+blanks-refused h = other-byte (h .reads-oldest (register 0 0) (heldAt 0x19) refl refl .0)
+  where
+    other-byte : _≡_ {A = Answer} (Done 0) (Done 0x5A) → ⊥
+    other-byte e = let z : _≡_ {A = ℕ} 0 0x5A = cc in omega arith
+
+pub eats-refused : EndingStays eats → ⊥
+unfolding everything eats B.wants B.expects B.expectsBody B.stage B.isSpent
+eats-refused h =
+    let o : B.Offered 4 0 0 UnspecifiedOut sent = record { good = refl; phase = refl; quiet = refl; connected = refl; released = refl } in
+    let z : _≡_ {A = ℕ} 0 1 =
+    ap (λ (q : Fifo). q .held) (h .begins-keeps (request 4 0 0) sent 0x4C (B.surprises o refl refl refl) refl .bytes) in
+    omega arith
+
+pub hollows-refused : EndingStays hollows → ⊥
+unfolding everything hollows W.instead isDisconnect isCommand
+hollows-refused h =
+    let z : _≡_ {A = ℕ} 1 0 = ap (λ (q : Fifo). q .held) (h .dropped-whole (register 1 0x04) (heldAt 0x18) refl refl .bytes) in omega arith
+
+no-last-look : ReadsLast auxiliary held → ⊥
+unfolding readsAt
+no-last-look (B.byte e d w) = clash e refl
+
+pub shuts-refused : EndingStays shuts → ⊥
+unfolding everything shuts W.instead isDropped isReset isDisconnect isCommand
+shuts-refused h = clash (ap (λ (t : Transfer). isIncoming (t .direction)) (h .transfer-stays auxiliary held refl refl no-last-look)) refl

@@ -4,7 +4,8 @@
 --   times-out-row answers-row reselects-row                   events
 --   byte-row slice-row                                        reads
 --   no-data no-block                                          reads where no byte waits
---   Emptied block-empties last-stands   what the read of the last incoming byte leads to
+--   data-read data-reachable                                  a read of the Data register where a byte waits; it is never Blind
+--   Emptied block-empties last-stands last-unread   what the read of the last incoming byte leads to
 use mathlib.Core.Path.{_≡_, refl, sym, ap, _∙_}
 use mathlib.Core.Bool.{Bool, true, false}
 use mathlib.Core.List.{List, [], _∷_}
@@ -45,7 +46,7 @@ use Rattle.unread.proofs.Choosing.{taken, passed-over, clash, second-fa
 use Rattle.unread.proofs.Telling.{standing}
 use Rattle.unread.proofs.Host.{some-wait, holds-some, one-less}
 use Rattle.unread.proofs.Told.{good-step, Issued, issued, Reading, reading}
-use Rattle.unread.proofs.Asked.{seen, shown, Raised, Ended, raised-by, ended-by, open-event}
+use Rattle.unread.proofs.Asked.{seen, shown, Raised, Load, load, Ended, raised-by, ended-by, open-event}
 
 -- commands
 
@@ -55,14 +56,15 @@ stepped-raised : (c : Call) (s : State) {k : ℕ} (a : ℕ) (r : Reply) → step
 unfolding R.stepped
 stepped-raised c s a r e h = rw e (record { code = h .code; int = h .int })
 
-stepped-ended : (c : Call) (s : State) {k : ℕ} {w : Bool} (a : ℕ) (r : Reply) → step c s ≡ plain (R.stepped a r) → Ended k w (r .state)
-    → Ended k w (step c s .state)
+stepped-ended : (c : Call) (s : State) {k : ℕ} {w : Bool} {v : Load} (a : ℕ) (r : Reply) → step c s ≡ plain (R.stepped a r)
+    → Ended k w v (r .state) → Ended k w v (step c s .state)
 unfolding R.stepped unread
 stepped-ended c s a r e h =
     record {
       raised-now = λ f. stepped-raised c s a r e (h .raised-now f);
       all-read = λ f. rw e (h .all-read f);
       read-first = λ f. rw e (h .read-first f);
+      kept = λ f. rw e (h .kept f);
     }
 
 module _ (c : Call) (s : State) (q : Quiet s) where
@@ -87,7 +89,7 @@ module _ (c : Call) (s : State) (q : Quiet s) where
     abort-taken b e = taken-command b (rw e) (rw (e, abort-kept)) (rw (e, abort-valid)) ∙ rw e
 
     pub aborts-connected-row : isCommand 0x01 c s ≡ true → s .wire .connection ≡ Connected
-        → Ended (0x28 + phaseNumber (abortPhase (s .wire .last))) (unread s) (step c s .state)
+        → Ended (0x28 + phaseNumber (abortPhase (s .wire .last))) (unread s) (load s) (step c s .state)
     unfolding aborted accepted unread
     aborts-connected-row e x =
         let h : Issued 0x01 c s = issued 0x01 c s e in
@@ -132,17 +134,17 @@ module _ (c : Call) (s : State) (q : Quiet s) where
       unfolding isValid isReady entryOf table both either pick
       resume-valid k w = one-of (λ (j : ℕ). isValid j s ≡ true) 0x08 0x09 k w (rw (resumable, x)) (rw (resumable, x))
 
-      resume-raises : (r : Running) (b : ℕ) → Ended 0x16 false (transferring r (accepted b s))
+      resume-raises : (r : Running) (b : ℕ) → Ended 0x16 false (load (loaded s)) (transferring r (accepted b s))
       unfolding transferring resumed loaded accepted unread both
       resume-raises r b = ended-by _ (ap seen (taken _ _ (ap isConnected x) ∙ taken _ _ (eq-eqb _ _ p))) refl
 
       -- what 08 and 09 do
-      resume-carried : (k b : ℕ) → either (eqb k 0x08) (eqb k 0x09) ≡ true → Ended 0x16 false (carriedOut k (isSingle b) (accepted b s))
+      resume-carried : (k b : ℕ) → either (eqb k 0x08) (eqb k 0x09) ≡ true → Ended 0x16 false (load (loaded s)) (carriedOut k (isSingle b) (accepted b s))
       unfolding carriedOut pick
       resume-carried k b w =
-          one-of (λ (j : ℕ). Ended 0x16 false (carriedOut j (isSingle b) (accepted b s))) 0x08 0x09 k w (resume-raises _ b) (resume-raises _ b)
+          one-of (λ (j : ℕ). Ended 0x16 false (load (loaded s)) (carriedOut j (isSingle b) (accepted b s))) 0x08 0x09 k w (resume-raises _ b) (resume-raises _ b)
 
-      pub resumes-row : (k : ℕ) → isCommand k c s ≡ true → either (eqb k 0x08) (eqb k 0x09) ≡ true → Ended 0x16 false (step c s .state)
+      pub resumes-row : (k : ℕ) → isCommand k c s ≡ true → either (eqb k 0x08) (eqb k 0x09) ≡ true → Ended 0x16 false (load (loaded s)) (step c s .state)
       resumes-row k e w =
           let h : Issued k c s = issued k c s e in
           let n : eqb k 0x00 ≡ false = one-of (λ (j : ℕ). eqb j 0x00 ≡ false) 0x08 0x09 k w refl refl in
@@ -195,7 +197,7 @@ is-in Unfixed e = clash e refl
 is-in In e = refl
 is-in Out e = clash e refl
 
-data-read : (s : State) → isIncoming (s .transfer .direction) ≡ true → isEmpty (s .fifo) ≡ false
+pub data-read : (s : State) → isIncoming (s .transfer .direction) ≡ true → isEmpty (s .fifo) ≡ false
     → R.dataRead s ≡ done (front (s .fifo)) (settled (setFifo (pop (s .fifo)) s))
 unfolding R.dataRead
 data-read s d e =
@@ -267,16 +269,17 @@ block-empties (x ∷ l) s d v u =
     (block-empties l (setFifo (pop (s .fifo)) s) d (some-wait _ z) (omega (arith, one-less (s .fifo) (holds-some (s .fifo) v)))))))
 
 -- .. of an ending with k
-emptied-ends : {k : ℕ} {s t : State} → Emptied s t → s .status .pending ≡ Ending k → Ended k false t
+emptied-ends : {k : ℕ} {s t : State} → Emptied s t → s .status .pending ≡ Ending k → Ended k false (load s) t
 unfolding settledBy endingWith unread
 emptied-ends {k} {s} (emptied q e l) p =
     let u : State = setFifo q s in
     let f : unread u ≡ false = second-fails _ _ (rw e) in
-    ended-by u (ap seen (l ∙ ap (λ (x : Pending). settledBy x u) p ∙ sym (passed-over _ _ f))) f
+    let h = ended-by u (ap seen (l ∙ ap (λ (x : Pending). settledBy x u) p ∙ sym (passed-over _ _ f))) f in
+    record { raised-now = h .raised-now; all-read = h .all-read; read-first = h .read-first; kept = λ z. clash z refl }
 
 pub slice-row : (m : ℕ) (l : List ℕ) (s : State) (k : ℕ) → isGood (block m l) ≡ true → isSet m ≡ false
     → isIncoming (s .transfer .direction) ≡ true → 0 < waits (s .fifo) → waits (s .fifo) ≤ length l → s .status .pending ≡ Ending k
-    → Ended k false (step (block m l) s .state)
+    → Ended k false (load s) (step (block m l) s .state)
 unfolding carried
 slice-row m l s k g f d v u p =
     rw (good-step (block m l) s g, passed-over (R.blockWritten l s) (R.blockRead l s) f) (emptied-ends (block-empties l s d v u) p)
@@ -288,12 +291,12 @@ data-empties s d w =
     let e = data-read s d (holds-some (s .fifo) (omega arith)) in
     rw e (rw e at (block-empties (0 ∷ []) s d (omega arith) (omega arith)))
 
-data-reachable : (b : ℕ) (s : State) → R.accessedAt 0x19 false b s ≡ R.dataRead s
+pub data-reachable : (b : ℕ) (s : State) → R.accessedAt 0x19 false b s ≡ R.dataRead s
 unfolding R.accessedAt R.isBlind R.readAt both either pick
 data-reachable b s = by-test (busy s) (λ e. rw e) (λ e. rw e)
 
 pub byte-row : (c : Call) (s : State) (k : ℕ) → readsAt 0x19 c s ≡ true → isIncoming (s .transfer .direction) ≡ true
-    → waits (s .fifo) ≡ 1 → s .status .pending ≡ Ending k → Ended k false (step c s .state)
+    → waits (s .fifo) ≡ 1 → s .status .pending ≡ Ending k → Ended k false (load s) (step c s .state)
 byte-row c s k e d w p =
     let h : Reading 0x19 c s = reading 0x19 c s e in
     stepped-ended c s 0x19 _ (h .gives) (rw (data-reachable (h .byte) s) (emptied-ends (data-empties s d w) p))
@@ -310,3 +313,16 @@ last-stands (byte {c} {s} e d w) =
     rw (h .gives, data-reachable (h .byte) s) (emptied-stands (data-empties s d w))
 last-stands (slice {m} {l} {s} g f d v u) =
     rw (good-step (block m l) s g, passed-over (R.blockWritten l s) (R.blockRead l s) f) (emptied-stands (block-empties l s d v u))
+
+-- .. and no byte is unread
+emptied-unread : {s t : State} → Emptied s t → unread t ≡ false
+unfolding unread
+emptied-unread {s} (emptied q e l) = second-fails _ _ (rw (l, settled-empty (s .status .pending) (setFifo q s) e))
+
+pub last-unread : {c : Call} {s : State} → ReadsLast c s → unread (step c s .state) ≡ false
+unfolding R.stepped carried unread
+last-unread (byte {c} {s} e d w) =
+    let h : Reading 0x19 c s = reading 0x19 c s e in
+    rw (h .gives, data-reachable (h .byte) s) (emptied-unread (data-empties s d w))
+last-unread (slice {m} {l} {s} g f d v u) =
+    rw (good-step (block m l) s g, passed-over (R.blockWritten l s) (R.blockRead l s) f) (emptied-unread (block-empties l s d v u))

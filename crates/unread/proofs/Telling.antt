@@ -2,6 +2,7 @@
 --   Standing standing  of a state: the code, what is pending, the connection, the running command
 --   Settles c s q x    the call c, made in s, settles what was pending: q is pending then, with the connection x
 --   settles-quiet settles-apart settles-plain   .. there was no INT, no selection runs, and no code is to come
+--   read-out-quiet     where the read-out begins, nothing was pending
 --   Tells c s z        the call c, made in s, leaves z: the eight ways
 --   Leaves s x         a code raised in s leaves the connection x: a selection is over
 --   ToldState so ToldReply   .. said of the state, or of the reply, that the call leads to
@@ -26,7 +27,8 @@ use Rattle.chip.specs.declared.Running.{Running}
 use Rattle.chip.specs.declared.Connection.{Connection}
 use Rattle.chip.specs.declared.Connection.the-variants.{Disconnected, Selecting, Waiting, Connected}
 use Rattle.unread.specs.Status.{isReset, isSelection, isDisconnect, isAnswer, readsAt}
-use Rattle.unread.specs.Because.{Quiet, Brings, Begins, ReadsLast, Because, brings-unread, brings}
+use Rattle.unread.specs.Because as B
+use Rattle.unread.specs.Because.{Quiet, Brings, Begins, BeginsReadOut, ReadsLast, Because, brings-unread, brings}
 use Rattle.chip.proofs.Cases.{by-case}
 use Rattle.unread.proofs.Choosing.{clash}
 
@@ -61,7 +63,7 @@ pub data Leaves (s : State) : Connection → Type 0 where
 -- why nothing is pending, or a read-out with no code, where something else was: a Disconnect, a Free at 42h, the last byte after one
 pub data Settles (c : Call) (s : State) : Pending → Connection → Type 0 where
   disconnects : isDisconnect c s ≡ true → interrupted s ≡ false → Settles c s Nothing Disconnected
-  reads-out : Quiet s → Settles c s ReadOut Disconnected
+  reads-out : BeginsReadOut c s → Settles c s ReadOut Disconnected
   has-read : s .status .pending ≡ ReadOut → ReadsLast c s → Settles c s Nothing Waiting
 
 pub data Tells (c : Call) (s : State) : Standing → Type 0 where
@@ -104,19 +106,23 @@ so h = record { tells = h }
 abbrev pub ToldReply : Call → State → Reply → Type 0
 ToldReply c s r = ToldState c s (r .state)
 
+-- the read-out begins with nothing pending
+pub read-out-quiet : {c : Call} {s : State} → BeginsReadOut c s → Quiet s
+read-out-quiet (B.leaves-unread q x r e d u) = q
+
 pub settles-quiet : {c : Call} {s : State} {q : Pending} {x : Connection} → Settles c s q x → interrupted s ≡ false
 settles-quiet (disconnects d i) = i
-settles-quiet (reads-out q) = ap isInterrupt q
+settles-quiet (reads-out h) = ap isInterrupt (read-out-quiet h)
 settles-quiet (has-read e l) = ap isInterrupt e
 
 pub settles-apart : {c : Call} {s : State} {q : Pending} {x : Connection} → Settles c s q x → isSelecting x ≡ false
 settles-apart (disconnects d i) = refl
-settles-apart (reads-out q) = refl
+settles-apart (reads-out h) = refl
 settles-apart (has-read e l) = refl
 
 pub settles-plain : {c : Call} {s : State} {q : Pending} {x : Connection} → Settles c s q x → isPlain q ≡ true
 settles-plain (disconnects d i) = refl
-settles-plain (reads-out q) = refl
+settles-plain (reads-out h) = refl
 settles-plain (has-read e l) = refl
 
 pub plain-int : (q : Pending) → isPlain q ≡ true → isInterrupt q ≡ false

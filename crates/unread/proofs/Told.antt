@@ -5,6 +5,7 @@
 --   issued         .. of a call that writes a command
 --   reset-told     Reset raises 00
 --   Reading reading   a register read, as the step takes it
+--   access-step    a register access with its address and its mark known
 --   disconnect-gives disconnect-told   Disconnect is taken, and drops what is pending
 --   ReadTold       what a read of 17h answers and leaves: Blind, or the code
 --   status-read    .. of a call that reads 17h
@@ -66,7 +67,7 @@ unfolding step pick
 good-step c s g = rw g
 
 -- a register access with its address and its mark known
-access-step : (m b : ℕ) (s : State) (a : ℕ) (w : Bool) → isGood (register m b) ≡ true → isSet m ≡ w → eqb (s .status .pointer) a ≡ true
+pub access-step : (m b : ℕ) (s : State) (a : ℕ) (w : Bool) → isGood (register m b) ≡ true → isSet m ≡ w → eqb (s .status .pointer) a ≡ true
     → step (register m b) s ≡ plain (R.stepped a (R.accessedAt a w b s))
 unfolding carried R.accessed
 access-step m b s a w g f e =

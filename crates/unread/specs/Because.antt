@@ -2,10 +2,11 @@
 --   Because c s k        the table: the call c, made in s, raises the code k
 --   Brings c s k         its rows that end a running command: k is raised at once, or when the incoming bytes are read out
 --   Begins c s k         such a row with incoming bytes unread: an ending with k begins
+--   BeginsReadOut c s    a Free at 42h without IDI, with incoming bytes unread: the read-out begins, an ending with no code
 --   ReadsLast c s        the call c reads the last incoming byte that waits: at 19h, or by a block
 --   ReadsOut c s k       .. of an ending with k
 --   RaisedBecause f      the table is sound and complete for the step f
---   EndingBecause f      an ending with k begins exactly where the table says so
+--   EndingBecause f      an ending with k begins exactly where the table says so, and the read-out exactly where BeginsReadOut does
 --   Quiet s              nothing is pending in s: no INT and no ending
 --   isIdle r             no command that Requests are for: none runs, or one that only selects
 --   Offered n b m p s    the Request n b m, of phase p, comes to the running command
@@ -40,7 +41,7 @@ use Rattle.chip.specs.declared.Stage.{Stage}
 use Rattle.chip.specs.declared.Stage.the-variants.{SendIdentify, SendCommand, Body, AfterData, Disconnecting, Reselected, AfterStatus, Elsewhere}
 use Rattle.chip.specs.declared.Running.{Running}
 use Rattle.chip.specs.declared.Running.the-variants.{Idle, SelectWithAtn, SelectWithoutAtn, TransferWithAtn, TransferWithoutAtn, TransferInfo}
-use Rattle.chip.specs.declared.Pending.the-variants.{Nothing, Ending}
+use Rattle.chip.specs.declared.Pending.the-variants.{Nothing, Ending, ReadOut}
 use Rattle.chip.specs.declared.Connection.the-variants.{Selecting, Connected}
 use Rattle.chip.specs.declared.Direction.{Direction}
 use Rattle.chip.specs.declared.Direction.the-variants.{Unfixed, In, Out}
@@ -179,6 +180,10 @@ pub data Begins : Call → State → ℕ → Type 0 where
   keeps-last : {n b m : ℕ} {s : State} → LastMessage n b m s → isIncoming (s .transfer .direction) ≡ true
       → Begins (request n b m) s 0x20
 
+pub data BeginsReadOut : Call → State → Type 0 where
+  leaves-unread : {s : State} → Quiet s → s .wire .connection ≡ Connected → isTransfer (s .transfer .running) ≡ true
+      → eqb (s .registers .phase) 0x42 ≡ true → idi s ≡ false → unread s ≡ true → BeginsReadOut free s
+
 pub data ReadsLast : Call → State → Type 0 where
   byte : {c : Call} {s : State} → readsAt 0x19 c s ≡ true → isIncoming (s .transfer .direction) ≡ true → waits (s .fifo) ≡ 1
       → ReadsLast c s
@@ -235,3 +240,6 @@ pub record EndingBecause (f : Call → State → Outcome) : Type 0 where
   pub sound : (c : Call) (s : State) (k : ℕ) → f c s .state .status .pending ≡ Ending k
       → (s .status .pending ≡ Ending k) ⊎ Begins c s k
   pub complete : (c : Call) (s : State) (k : ℕ) → Begins c s k → f c s .state .status .pending ≡ Ending k
+  pub read-out-sound : (c : Call) (s : State) → f c s .state .status .pending ≡ ReadOut
+      → (s .status .pending ≡ ReadOut) ⊎ BeginsReadOut c s
+  pub read-out-complete : (c : Call) (s : State) → BeginsReadOut c s → f c s .state .status .pending ≡ ReadOut

@@ -13,22 +13,29 @@
 --   renames    Time in an ending makes the code to come 42h
 --   spills     Time in an ending empties the FIFO: nobody can read it out, and the code never comes
 --   shrugs     a Request in an ending is Done, and nothing happens: the board takes it for taken
+--   invents    Time with incoming bytes unread under a Select-And-Transfer, and nothing pending, begins a read-out, Disconnected
+--   blanks     a read at 19h in an ending gives 0, and takes the byte away
+--   eats       the call that begins an ending empties the FIFO
+--   hollows    a Disconnect in an ending drops only what is pending and the connection: command and bytes stay
+--   shuts      a read of auxiliary status in an ending forgets the way of data: nobody can read the bytes, and the code never comes
 --   instead t g   the step, where calls that the test t is true of are Done and do g instead
 --   changed n g   .. where calls of kind n are
 use mathlib.Core.Bool.{Bool, not}
 use Prim.Native.Nat.{ℕ}
 use lib.Dec.{eqb}
 use Rattle.chip.specs.Choice.{pick, both}
-use Rattle.chip.specs.State.{empty, setFifo, setCode, setPending}
+use Rattle.chip.specs.State.{empty, setFifo, setCode, setPending, setDirection, setConnection}
 use Rattle.chip.specs.Answers.{done, says}
-use Rattle.chip.specs.Interrupts.{ends, settledBy}
+use Rattle.chip.specs.Interrupts.{interrupted, ends, settledBy, unread}
 use Rattle.chip.specs.Commands.{isConnected}
 use Rattle.chip.specs.Events.{isTransfer, setsAtn, timedOut}
 use Rattle.chip.specs.Calls.{Call, Outcome, kind, plain, step}
 use Rattle.chip.specs.declared.State.{State}
-use Rattle.chip.specs.declared.Pending.the-variants.{Nothing, Ending}
+use Rattle.chip.specs.declared.Pending.the-variants.{Nothing, Ending, ReadOut}
+use Rattle.chip.specs.declared.Connection.the-variants.{Disconnected}
+use Rattle.chip.specs.declared.Direction.the-variants.{Unfixed}
 use Rattle.chip.specs.declared.Answer.the-variants.{Done}
-use Rattle.unread.specs.Status.{isReset, readsAt}
+use Rattle.unread.specs.Status.{isReset, isDisconnect, readsAt}
 
 unfoldable pub instead : (Call → State → Bool) → (State → State) → Call → State → Outcome
 instead test g c s = pick (test c s) (plain (done 0 (g s))) (step c s)
@@ -72,7 +79,7 @@ meddling = changed 8 (setPending (Ending 0x42))
 unfoldable pub deaf : Call → State → Outcome
 deaf = changed 5 (λ s. s)
 
--- a Time, or a Request, in an ending
+-- a call of one kind, in an ending
 abbrev inEnding : ℕ → Call → State → Bool
 inEnding n c s = both (eqb (kind c) n) (ends s)
 
@@ -96,3 +103,29 @@ spills = instead (inEnding 4) (setFifo empty)
 unfoldable pub shrugs : Call → State → Outcome
 unfolding instead
 shrugs = instead (inEnding 7) (λ s. s)
+
+unfoldable pub invents : Call → State → Outcome
+unfolding instead
+invents =
+    instead
+    (λ c s. both (eqb (kind c) 4) (both (both (not (interrupted s)) (not (ends s))) (both (isTransfer (s .transfer .running)) (unread s))))
+    (λ s. setPending ReadOut (setConnection Disconnected s))
+
+unfoldable pub blanks : Call → State → Outcome
+blanks c s = pick (both (readsAt 0x19 c s) (ends s)) (plain (says (Done 0) (step c s .state))) (step c s)
+
+unfoldable pub eats : Call → State → Outcome
+eats c s =
+    record {
+      answer = step c s .answer;
+      state = pick (both (not (ends s)) (ends (step c s .state))) (setFifo empty (step c s .state)) (step c s .state);
+      lent = step c s .lent;
+    }
+
+unfoldable pub hollows : Call → State → Outcome
+unfolding instead
+hollows = instead (λ c s. both (isDisconnect c s) (ends s)) (λ s. setPending Nothing (setConnection Disconnected s))
+
+unfoldable pub shuts : Call → State → Outcome
+unfolding instead
+shuts = instead (inEnding 1) (setDirection Unfixed)
