@@ -3,7 +3,7 @@
 --   goes-there        complete: each row leaves the connection that it says, from every state
 --   Rests             of a reply: the connection is as before. No Request moves it
 --   Sorted goes       sound: after every call the connection is as before, or the table says so
---   place to          the connection, of a state, and of the state that a reply leads to
+--   to                the connection of the state that a reply leads to
 use mathlib.Core.Path.{_≡_, refl, ap, _∙_}
 use mathlib.Core.Bool.{Bool, true, false, not}
 use mathlib.Core.List.{List}
@@ -46,20 +46,17 @@ use Rattle.unread.specs.History.{run}
 use Rattle.unread.specs.Because.{Quiet, ReadsLast, byte, slice}
 use Rattle.unread.proofs.Choosing.{clash, taken, passed-over, one-of}
 use Rattle.unread.proofs.Telling.{Standing, quiet-of}
-use Rattle.unread.proofs.Host.{each-select, select-idle, transfer-selects, not-busy-runs, not-busy-ends, abort-ends, abort-runs, is-command, own-code, is-disconnect, is-read, Drains, drains-nothing, drains-wait, drains-ending, then, pops, block-drains, written-stands, block-stands}
+use Rattle.unread.proofs.Host.{each-select, select-idle, transfer-selects, not-busy-runs, not-busy-ends, abort-ends, abort-runs, is-command, own-code, is-disconnect, is-read, Drains, drains-nothing, drains-wait, drains-ending, then, pops, block-drains, written-keeps, block-keeps, stored-keeps}
 use Rattle.unread.proofs.Bus.{remembered-keeps}
 use Rattle.unread.proofs.Told.{good-step, Issued, issued, disconnect-gives}
 use Rattle.unread.proofs.Rows.{taken-command, abort-taken, kept-free}
 use Rattle.unread.proofs.Asked.{transfer-freed}
 use Rattle.unread.proofs.Bytes.{ending-stays}
-use Rattle.unread.proofs.Placed.{stands-placed}
+use Rattle.unread.proofs.Placed.{place}
 use Rattle.belongs.specs.Connection as C
 use Rattle.belongs.specs.Connection.{letsGo, Goes, ConnectionGoes}
 use Rattle.belongs.proofs.StillBus.{lived}
-use Rattle.belongs.proofs.Unmoved.{stored-wire, unmoved}
-
-abbrev place : State → Connection
-place t = t .wire .connection
+use Rattle.belongs.proofs.Unmoved.{unmoved}
 
 abbrev to : Reply → Connection
 to r = r .state .wire .connection
@@ -344,7 +341,7 @@ module _ (s : State) where
   block-goes : (m : ℕ) (l : List ℕ) → isGood (block m l) ≡ true → Sorted (block m l) s (place (carried (block m l) s .state))
   unfolding carried
   block-goes m l good =
-      by-case (λ (r : R.Moved). Sorted (block m l) s (place (r .state))) _ (λ w. inl (stands-placed s (R.blockWritten l s .state) (block-stands l s)))
+      by-case (λ (r : R.Moved). Sorted (block m l) s (place (r .state))) _ (λ w. inl (block-keeps place (λ x t. refl) l s))
       (λ w. drained-goes (λ d v u. slice good w d v u) (block-drains l s))
 
 module _ (s : State) (i : interrupted s ≡ false) where
@@ -432,8 +429,8 @@ module _ (s : State) (i : interrupted s ≡ false) where
     unfolding R.writtenAt
     written-goes w =
         by-case Moves _ (commanded-goes m b good w)
-        (λ n. by-pick Moves _ (inl (stands-placed s (R.dataWritten b s .state) (written-stands b s)))
-        (inl (ap (λ (v : Wire). v .connection) (stored-wire s (s .status .pointer) b))))
+        (λ n. by-pick Moves _ (inl (written-keeps place (λ x t. refl) b s))
+        (inl (stored-keeps place (λ x t. refl) (s .status .pointer) b s)))
 
     access-goes : Moves (R.accessed (isSet m) b s)
     unfolding R.accessed R.stepped R.accessedAt

@@ -6,13 +6,12 @@ use mathlib.Core.Bool.{Bool, true}
 use mathlib.Core.List.{List}
 use mathlib.Core.Logic.{_⊎_, inl, inr, ⊎-elim}
 use Prim.Native.Nat.{ℕ}
-use Rattle.chip.specs.Phases.{phaseOf}
 use Rattle.chip.specs.Lines.{qualifies}
 use Rattle.chip.specs.Answers.{done, held}
 use Rattle.chip.specs.State.{fresh}
 use Rattle.chip.specs.Interrupts.{interrupted, isInterrupt, isEnding, unlessInterrupt}
 use Rattle.chip.specs.Events as E
-use Rattle.chip.specs.Calls.{Call, pointer, auxiliary, register, block, time, answer, reselection, request, free, isGood, isSet, plain, carried, step}
+use Rattle.chip.specs.Calls.{Call, time, answer, reselection, request, free, step}
 use Rattle.chip.specs.declared.State.{State}
 use Rattle.chip.specs.declared.Reply.{Reply}
 use Rattle.chip.specs.declared.Phase.{Phase}
@@ -31,10 +30,9 @@ use Rattle.reached.proofs.Laws.{reached}
 use Rattle.unread.specs.History.{run}
 use Rattle.unread.specs.Ending.{isEvent, isRefusal, Untouched}
 use Rattle.unread.proofs.Choosing.{clash, passed-over, taken}
-use Rattle.unread.proofs.Told.{good-step}
 use Rattle.unread.proofs.History.{ran}
 use Rattle.unread.proofs.Unread.{int-pending}
-use Rattle.unread.proofs.Ending.{Refuses, refuses, refuses-bad, passes, ending-is-still}
+use Rattle.unread.proofs.Ending.{Refuses, Stands, stands-still, ending-is-still}
 use Rattle.belongs.specs.StillBus.{StillBus}
 
 pub record Calm (s : State) : Type 0 where
@@ -102,31 +100,22 @@ module _ (s : State) (k : Calm s) where
       by-place (λ (x : Connection). Back (E.reselectedBy x lines s)) (held-back (by-pick Holds _ refl (holds _)))
       (record { same = refl; refused = refl })
 
-  event-back : (c : Call) → isEvent c ≡ true → isGood c ≡ true → Untouched step c s
-  unfolding carried E.passed E.answered E.reselected E.requested E.freed
-  event-back (pointer m b) v g = clash v refl
-  event-back auxiliary v g = clash v refl
-  event-back (register m b) v g = clash v refl
-  event-back (block m l) v g = clash v refl
-  event-back (time n) v g =
-      passes (time n) s refl
-      (good-step (time n) s g
-      ∙ ap plain (passed-over _ _ (ap isEnding (k .pending)) ∙ by-place (λ (x : Connection). E.passedBy x n s ≡ done 0 s) refl refl))
-  event-back answer v g =
-      refuses answer s (E.answered s) (good-step answer s g)
-      (by-place (λ (x : Connection). Back (E.answeredBy x s)) (record { same = refl; refused = refl }) (record { same = refl; refused = refl }))
-  event-back (reselection lines) v g =
-      refuses (reselection lines) s (E.reselected lines s) (good-step (reselection lines) s g)
-      (by-pick Back (qualifies lines s) (reselection-back lines) (record { same = refl; refused = refl }))
-  event-back (request p b q) v g =
-      refuses (request p b q) s (E.requested (phaseOf p) b (isSet q) s) (good-step (request p b q) s g)
-      (request-back (phaseOf p) b (isSet q))
-  event-back free v g =
-      refuses free s (E.freed s) (good-step free s g)
-      (by-place (λ (x : Connection). Back (E.freedBy x s)) (record { same = refl; refused = refl }) (held-back free-holds))
+  unread-stands : Stands s
+  unfolding E.passed E.answered E.reselected E.requested E.freed
+  unread-stands =
+      record {
+        time = λ n.
+            passed-over _ _ (ap isEnding (k .pending)) ∙ by-place (λ (x : Connection). E.passedBy x n s ≡ done 0 s) refl refl;
+        answer =
+            by-place (λ (x : Connection). Back (E.answeredBy x s)) (record { same = refl; refused = refl })
+            (record { same = refl; refused = refl });
+        reselection = λ lines. by-pick Back (qualifies lines s) (reselection-back lines) (record { same = refl; refused = refl });
+        request = λ p b bad. request-back p b bad;
+        free = by-place (λ (x : Connection). Back (E.freedBy x s)) (record { same = refl; refused = refl }) (held-back free-holds);
+      }
 
   pub unread-still : (c : Call) → isEvent c ≡ true → Untouched step c s
-  unread-still c v = by-test (isGood c) (event-back c v) (refuses-bad c s)
+  unread-still c v = stands-still unread-stands c v
 
 -- every state that calls lead to from the fresh one has the facts of room reached
 pub lived : (l : List Call) → Sound (run step l fresh)

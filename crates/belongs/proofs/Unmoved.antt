@@ -1,6 +1,5 @@
 -- With a status unread nothing that the host does moves the bus or a command, but for Reset.
 --   unmoved       the bus lines, connection and running command after any other call
---   stored-wire   a write to a register leaves the bus
 use mathlib.Core.Path.{_≡_, refl, ap}
 use mathlib.Core.Bool.{true, false}
 use mathlib.Core.List.{List, [], _∷_}
@@ -25,6 +24,7 @@ use Rattle.reached.proofs.Facts.{facts}
 use Rattle.unread.specs.Status.{isReset, isCommand}
 use Rattle.unread.specs.Ending.{isEvent}
 use Rattle.unread.proofs.Choosing.{clash, passed-over}
+use Rattle.unread.proofs.Host.{stored-keeps}
 use Rattle.unread.proofs.Rows.{no-data, no-block}
 use Rattle.belongs.proofs.StillBus.{calm, unread-still}
 
@@ -34,38 +34,6 @@ pub record Unmoved (s t : State) : Type 0 where
 
 abbrev rest : (s : State) → Unmoved s s
 rest s = record { wire = refl; transfer = refl }
-
--- registers 00 to 16h
-
-pub stored-wire : (s : State) (a b : ℕ) → R.stored a b s .wire ≡ s .wire
-unfolding R.stored
-stored-wire s a b =
-    by-pick So _ refl
-    (by-pick So _ refl
-    (by-pick So _ refl
-    (by-pick So _ refl
-    (by-pick So _ refl
-    (by-pick So _ refl
-    (by-pick So _ refl
-    (by-pick So _ refl (by-pick So _ refl (by-pick So _ refl (by-pick So _ refl refl))))))))))
-  where
-    So : State → Type 0
-    So t = t .wire ≡ s .wire
-
-stored-transfer : (s : State) (a b : ℕ) → R.stored a b s .transfer ≡ s .transfer
-unfolding R.stored
-stored-transfer s a b =
-    by-pick So _ refl
-    (by-pick So _ refl
-    (by-pick So _ refl
-    (by-pick So _ refl
-    (by-pick So _ refl
-    (by-pick So _ refl
-    (by-pick So _ refl
-    (by-pick So _ refl (by-pick So _ refl (by-pick So _ refl (by-pick So _ refl refl))))))))))
-  where
-    So : State → Type 0
-    So t = t .transfer ≡ s .transfer
 
 -- the Data register gives and takes nothing
 module _ (s : State) (e : isEmpty (s .fifo) ≡ true) (d : dbr s ≡ false) where
@@ -113,7 +81,10 @@ module _ (s : State) (x : Sound s) (i : interrupted s ≡ true) where
   written-rests m b g w r =
       by-case Rests _ (λ a. commanded-rests b (rw (g, w, a) at r))
       (λ a. by-pick Rests _ (rw (none-written s none-waits shut b) (rest s))
-      (record { wire = stored-wire s (s .status .pointer) b; transfer = stored-transfer s (s .status .pointer) b }))
+      (record {
+        wire = stored-keeps (λ (t : State). t .wire) (λ x t. refl) (s .status .pointer) b s;
+        transfer = stored-keeps (λ (t : State). t .transfer) (λ x t. refl) (s .status .pointer) b s;
+      }))
 
   access-rests : (m b : ℕ) → isGood (register m b) ≡ true → isReset (register m b) s ≡ false → Rests (R.accessed (isSet m) b s)
   unfolding R.accessed R.stepped R.accessedAt

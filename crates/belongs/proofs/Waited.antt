@@ -29,7 +29,6 @@ use Rattle.chip.specs.declared.Pending.{Pending}
 use Rattle.chip.specs.declared.Pending.the-variants.{Nothing}
 use Rattle.chip.specs.declared.Running.{Running}
 use Rattle.chip.specs.declared.Direction.{Direction}
-use Rattle.chip.specs.declared.Direction.the-variants.{Unfixed, In, Out}
 use Rattle.chip.specs.declared.Connection.{Connection}
 use Rattle.chip.specs.declared.Connection.the-variants.{Disconnected, Selecting}
 use Rattle.chip.proofs.Cases.{by-pick, by-case, by-test, both-first, both-second}
@@ -41,30 +40,13 @@ use Rattle.unread.specs.Codes.{Selects}
 use Rattle.unread.proofs.Choosing.{clash}
 use Rattle.unread.proofs.Telling.{isSelecting}
 use Rattle.unread.proofs.Told.{Issued, issued}
-use Rattle.unread.proofs.Host.{Pops, nothing-read, one-read, ending-read, wait-read, pops, going, valid-apart}
+use Rattle.unread.proofs.Host.{Pops, nothing-read, one-read, ending-read, wait-read, pops, going, written-keeps, block-keeps, stored-keeps, valid-apart}
 use Rattle.unread.proofs.Codes.{run-more, by-calls, since-end, selections-begun}
 use Rattle.unread.specs.Ending.{isTime}
 use Rattle.belongs.proofs.StillBus.{lived}
-use Rattle.belongs.proofs.Unmoved.{stored-wire}
 use Rattle.belongs.specs.TimedOut.{units, Waited, begun, passed}
 
 -- the Data register leaves the bus, but for the read-out that leads to a wait
-written-wire : (b : ℕ) (s : State) → R.dataWritten b s .state .wire ≡ s .wire
-unfolding R.dataWritten
-written-wire b s = by-way (s .transfer .direction)
-  where
-    by-way : (d : Direction) → R.dataWrittenBy d b s .state .wire ≡ s .wire
-    by-way Unfixed = refl
-    by-way In = refl
-    by-way Out = by-pick (λ (r : Reply). r .state .wire ≡ s .wire) _ refl refl
-
-block-written-wire : (l : List ℕ) (s : State) → R.blockWritten l s .state .wire ≡ s .wire
-unfolding R.blockWritten
-block-written-wire [] s = refl
-block-written-wire (b ∷ l) s =
-    going (λ (m : R.Moved). m .state .wire ≡ s .wire) (R.dataWritten b s .answer) _ _
-    (λ v. block-written-wire l (R.dataWritten b s .state) ∙ written-wire b s) refl
-
 pops-wire : {s t : State} → Quiet s → Pops s t → (t .wire ≡ s .wire) × Quiet t
 pops-wire q nothing-read = (refl, q)
 pops-wire q (one-read d w) = (refl, q)
@@ -110,7 +92,7 @@ module _ (s : State) (x : s .wire .connection ≡ Selecting) (q : Quiet s) where
   unfolding R.writtenAt
   written-stays b =
       by-pick So _ (commanded-stays b)
-      (by-pick So _ (kept (written-wire b s)) (kept (stored-wire s (s .status .pointer) b)))
+      (by-pick So _ (kept (written-keeps (λ (t : State). t .wire) (λ x t. refl) b s)) (kept (stored-keeps (λ (t : State). t .wire) (λ x t. refl) (s .status .pointer) b s)))
 
   read-stays : (a : ℕ) → So (R.readAt a s)
   unfolding R.readAt
@@ -142,7 +124,7 @@ module _ (s : State) (x : s .wire .connection ≡ Selecting) (q : Quiet s) where
   call-stays (register m b) t a = by-pick Leads _ (access-stays m b) (λ e. refl)
   call-stays (block m l) t a =
       by-pick Leads _
-      (by-pick (λ (r : R.Moved). Stays (r .state)) _ (kept (block-written-wire l s)) (kept (block-wire l s q)))
+      (by-pick (λ (r : R.Moved). Stays (r .state)) _ (kept (block-keeps (λ (t : State). t .wire) (λ x t. refl) l s)) (kept (block-wire l s q)))
       (λ e. refl)
   call-stays (time n) t a = clash refl t
   call-stays answer t a = clash refl a

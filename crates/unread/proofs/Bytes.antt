@@ -26,7 +26,6 @@ use Rattle.chip.specs.Calls.{Call, pointer, auxiliary, register, block, time, a
 use Rattle.chip.specs.declared.State.{State}
 use Rattle.chip.specs.declared.Fifo.{Fifo}
 use Rattle.chip.specs.declared.Answer.the-variants.{Done}
-use Rattle.chip.specs.declared.Reply.{Reply}
 use Rattle.chip.specs.declared.Direction.{Direction}
 use Rattle.chip.specs.declared.Direction.the-variants.{Unfixed, In, Out}
 use Rattle.chip.specs.declared.Pending.{Pending}
@@ -39,31 +38,13 @@ use Rattle.unread.specs.Ending.{isEvent, isDataAccess, isDataRead, Waits
 use Rattle.chip.proofs.Cases.{by-pick, by-case, by-test, both-first, both-second, either-first, either-rest}
 use Rattle.unread.proofs.Choosing.{clash, not-first}
 use Rattle.unread.proofs.Telling.{Standing, standing}
-use Rattle.unread.proofs.Host.{Pops, nothing-read, one-read, ending-read, wait-read, pops, going, some-wait, one-less}
+use Rattle.unread.proofs.Host.{Pops, nothing-read, one-read, ending-read, wait-read, pops, going, written-keeps, block-keeps, some-wait, one-less}
 use Rattle.unread.proofs.Told.{told, good-step, access-step, Issued, issued, Reading, reading, disconnect-gives}
 use Rattle.unread.proofs.Asked as A
 use Rattle.unread.proofs.Asked.{Load, load}
 use Rattle.unread.proofs.Rows.{data-read, data-reachable, last-stands, last-unread}
 use Rattle.unread.proofs.Because.{brings-row}
 use Rattle.unread.proofs.Ending.{refuses-bad, ending-is-still, pending-stays, host-stays}
-
--- writes of the Data register
-
-written-transfer : (b : ℕ) (s : State) → R.dataWritten b s .state .transfer ≡ s .transfer
-unfolding R.dataWritten
-written-transfer b s = by-way (s .transfer .direction)
-  where
-    by-way : (d : Direction) → R.dataWrittenBy d b s .state .transfer ≡ s .transfer
-    by-way Unfixed = refl
-    by-way In = refl
-    by-way Out = by-pick (λ (r : Reply). r .state .transfer ≡ s .transfer) _ refl refl
-
-block-transfer : (l : List ℕ) (s : State) → R.blockWritten l s .state .transfer ≡ s .transfer
-unfolding R.blockWritten
-block-transfer [] s = refl
-block-transfer (b ∷ l) s =
-    going (λ (m : R.Moved). m .state .transfer ≡ s .transfer) (R.dataWritten b s .answer) _ _
-    (λ v. block-transfer l (R.dataWritten b s .state) ∙ written-transfer b s) refl
 
 -- where the way is not out nothing is written
 not-written : (b : ℕ) (s : State) → isOutgoing (s .transfer .direction) ≡ false → R.dataWritten b s ≡ noDataNow s
@@ -122,7 +103,7 @@ module _ (m b : ℕ) (s : State) (at : eqb (s .status .pointer) 0x19 ≡ true) (
   unfolding R.stepped
   register-stays n =
       by-test (isSet m)
-      (λ w. rw (access-step m b s 0x19 true g w at, write-reachable b s) (written-transfer b s))
+      (λ w. rw (access-step m b s 0x19 true g w at, write-reachable b s) (written-keeps (λ (t : State). t .transfer) (λ x t. refl) b s))
       (λ w. rw (access-step m b s 0x19 false g w at, data-reachable b s)
       (pops-transfer (pops s) (λ d v. n (B.byte (reads-data w) d v))))
 
@@ -139,7 +120,7 @@ module _ (m : ℕ) (l : List ℕ) (s : State) (g : isGood (block m l) ≡ true) 
   unfolding carried
   block-stays n =
       rw (good-step (block m l) s g)
-      (by-case (λ (r : R.Moved). r .state .transfer ≡ s .transfer) _ (λ w. block-transfer l s)
+      (by-case (λ (r : R.Moved). r .state .transfer ≡ s .transfer) _ (λ w. block-keeps (λ (t : State). t .transfer) (λ x t. refl) l s)
       (λ w. read-transfer l s (λ d v u. n (B.slice g w d v u))))
 
   block-kept : both (isGood (block m l)) (not (isSet m)) ≡ false → isOutgoing (s .transfer .direction) ≡ false

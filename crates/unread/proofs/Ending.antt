@@ -2,7 +2,8 @@
 --   ending-is-still   the law of the bus events
 --   pending-stays     only a Reset, a Disconnect while connected or the read of its last byte ends an ending
 --   Stays host-stays  every call of the host but these and accesses to the Data register leaves FIFO, command, way and connection
---   Refuses refuses   of a reply, or an outcome: nothing changed, and the answer is a refusal
+--   Refuses refuses-bad   nothing changed, and the answer is a refusal
+--   Stands stands-still   where every event comes to that, but for Time, the bus stands still
 use mathlib.Core.Path.{_≡_, refl, ap, _∙_}
 use mathlib.Core.Bool.{Bool, true, false, not}
 use mathlib.Core.List.{List, [], _∷_}
@@ -44,7 +45,7 @@ pub record Refuses (s : State) (r : Reply) : Type 0 where
   pub same : r .state ≡ s
   pub refused : isRefusal (r .answer) ≡ true
 
-pub refuses : (c : Call) (s : State) (r : Reply) → step c s ≡ plain r → Refuses s r → Untouched step c s
+refuses : (c : Call) (s : State) (r : Reply) → step c s ≡ plain r → Refuses s r → Untouched step c s
 unfolding either
 refuses c s r e h =
     record { same = ap (λ (o : Outcome). o .state) e ∙ h .same; not-taken = rw (e, h .refused) (either-last (isTime c)) }
@@ -56,10 +57,34 @@ refuses-bad c s g =
     let e : step c s ≡ record { answer = BadNumber; state = s; lent = lentBy c } = passed-over _ _ g in
     record { same = ap (λ (o : Outcome). o .state) e; not-taken = rw e (either-last (isTime c)) }
 
+-- what every event comes to in a state where the bus stands still
+pub record Stands (s : State) : Type 0 where
+  pub time : (n : ℕ) → E.passed n s ≡ done 0 s
+  pub answer : Refuses s (E.answered s)
+  pub reselection : (lines : ℕ) → Refuses s (E.reselected lines s)
+  pub request : (p : Phase) (b : ℕ) (bad : Bool) → Refuses s (E.requested p b bad s)
+  pub free : Refuses s (E.freed s)
+
 -- a Time is Done, and changes nothing
-pub passes : (c : Call) (s : State) → isTime c ≡ true → step c s ≡ plain (done 0 s) → Untouched step c s
+passes : (c : Call) (s : State) → isTime c ≡ true → step c s ≡ plain (done 0 s) → Untouched step c s
 unfolding either
 passes c s t e = record { same = ap (λ (o : Outcome). o .state) e; not-taken = rw t }
+
+pub stands-still : {s : State} → Stands s → (c : Call) → isEvent c ≡ true → Untouched step c s
+unfolding carried
+stands-still {s} h c v = by-test (isGood c) (λ g. good-still c v (good-step c s g)) (refuses-bad c s)
+  where
+    good-still : (c : Call) → isEvent c ≡ true → step c s ≡ carried c s → Untouched step c s
+    good-still (pointer m b) v e = clash v refl
+    good-still auxiliary v e = clash v refl
+    good-still (register m b) v e = clash v refl
+    good-still (block m l) v e = clash v refl
+    good-still (time n) v e = passes (time n) s refl (e ∙ ap plain (h .time n))
+    good-still answer v e = refuses answer s (E.answered s) e (h .answer)
+    good-still (reselection lines) v e = refuses (reselection lines) s (E.reselected lines s) e (h .reselection lines)
+    good-still (request p b q) v e =
+        refuses (request p b q) s (E.requested (phaseOf p) b (isSet q) s) e (h .request (phaseOf p) b (isSet q))
+    good-still free v e = refuses free s (E.freed s) e (h .free)
 
 module _ (s : State) (e : ends s ≡ true) where
   abbrev Back : Reply → Type 0
@@ -95,24 +120,20 @@ module _ (s : State) (e : ends s ≡ true) where
   free-back Waiting = record { same = refl; refused = refl }
   free-back Connected = held-back _
 
-  event-back : (c : Call) → isEvent c ≡ true → isGood c ≡ true → Untouched step c s
-  unfolding carried E.passed E.answered E.reselected E.requested E.freed
-  event-back (pointer m b) v g = clash v refl
-  event-back auxiliary v g = clash v refl
-  event-back (register m b) v g = clash v refl
-  event-back (block m l) v g = clash v refl
-  event-back (time n) v g = passes (time n) s refl (good-step (time n) s g ∙ ap plain (taken _ _ e))
-  event-back answer v g = refuses answer s (E.answered s) (good-step answer s g) (answer-back (s .wire .connection))
-  event-back (reselection lines) v g =
-      refuses (reselection lines) s (E.reselected lines s) (good-step (reselection lines) s g)
-      (by-pick Back (qualifies lines s) (reselection-back lines (s .wire .connection)) (record { same = refl; refused = refl }))
-  event-back (request p b q) v g =
-      refuses (request p b q) s (E.requested (phaseOf p) b (isSet q) s) (good-step (request p b q) s g)
-      (request-back (phaseOf p) b (isSet q) (s .wire .connection))
-  event-back free v g = refuses free s (E.freed s) (good-step free s g) (free-back (s .wire .connection))
+  ending-stands : Stands s
+  unfolding E.passed E.answered E.reselected E.requested E.freed
+  ending-stands =
+      record {
+        time = λ n. taken _ _ e;
+        answer = answer-back (s .wire .connection);
+        reselection = λ lines.
+            by-pick Back (qualifies lines s) (reselection-back lines (s .wire .connection)) (record { same = refl; refused = refl });
+        request = λ p b bad. request-back p b bad (s .wire .connection);
+        free = free-back (s .wire .connection);
+      }
 
 pub ending-is-still : EndingIsStill step
-ending-is-still c s e v = by-test (isGood c) (event-back s e c v) (refuses-bad c s)
+ending-is-still c s e v = stands-still (ending-stands s e) c v
 
 -- what is pending stays
 

@@ -4,7 +4,7 @@
 --   block-tells block-written-tells   a block
 --   some-wait holds-some one-less     how many bytes wait
 --   Pops pops         what one read of the Data register leads to
---   written-stands block-stands       a write of it leaves code, what is pending, connection and command
+--   written-keeps block-keeps stored-keeps   what does not look at the FIFO, or at the registers, is kept by a write of them
 --   going             what holds where a block goes on and where it stops
 --   Drains then block-drains          what several lead to, a block of them
 --   invalid-idle select-idle abort-ends abort-runs is-disconnect   what a command that is not refused by a busy controller, or valid, finds
@@ -26,12 +26,13 @@ use Rattle.chip.specs.Count.{loaded, loadedInfo}
 use Rattle.chip.specs.SelectAndTransfer.{resumed, fromDisconnected}
 use Rattle.chip.specs.Commands.{isConnected, isValid, isReady, isPlace, isTwo, isRefusedBusy, leftOut, entryOf, table, reset, aborted, disconnected, selecting, transferring, informing, carriedOut, accepted, commanded}
 use Rattle.chip.specs.Calls.{Call, register, block, isGood, isSet}
-use Rattle.chip.specs.State.{setFifo, setPending, setConnection}
+use Rattle.chip.specs.State.{setRegisters, setFifo, setPending, setConnection}
 use Rattle.chip.specs.Fifo.{isEmpty, pop, waits}
 use Rattle.chip.specs.TransferInfo.{dbr}
 use Rattle.chip.specs.Registers.{Moved, goOn, dataRead, dataReadBy, dataWritten, dataWrittenBy, blockRead, blockWritten, stored, readAt, writtenAt, accessedAt, accessed, stepped}
 use Rattle.chip.specs.declared.State.{State}
 use Rattle.chip.specs.declared.Fifo.{Fifo}
+use Rattle.chip.specs.declared.Registers.{Registers}
 use Rattle.chip.specs.declared.Answer.{Answer}
 use Rattle.chip.specs.declared.Answer.the-variants.{Done, Held, OutOfPlace, BadNumber, Blind, CommandIgnored, ReselectionIgnored, NoDataNow, Reported}
 use Rattle.chip.specs.declared.Pending.{Pending}
@@ -326,22 +327,42 @@ block-drains (x ∷ l) s =
     (λ v. then (pops s) (block-drains l (dataRead s .state)))
     drains-nothing
 
-pub written-stands : (b : ℕ) (s : State) → standing (dataWritten b s .state) ≡ standing s
+-- a write of the Data register changes the FIFO alone, and so does a block of writes
+pub written-keeps : {A : Type 0} (g : State → A) → ((x : Fifo) (t : State) → g (setFifo x t) ≡ g t) → (b : ℕ) (s : State)
+    → g (dataWritten b s .state) ≡ g s
 unfolding dataWritten
-written-stands b s = by-way (s .transfer .direction)
+written-keeps g k b s = by-way (s .transfer .direction)
   where
-    by-way : (d : Direction) → standing (dataWrittenBy d b s .state) ≡ standing s
+    by-way : (d : Direction) → g (dataWrittenBy d b s .state) ≡ g s
     by-way Unfixed = refl
     by-way In = refl
-    by-way Out = by-pick (λ (r : Reply). standing (r .state) ≡ standing s) _ refl refl
+    by-way Out = by-pick (λ (r : Reply). g (r .state) ≡ g s) _ (k _ _) refl
 
-pub block-stands : (l : List ℕ) (s : State) → standing (blockWritten l s .state) ≡ standing s
+pub block-keeps : {A : Type 0} (g : State → A) → ((x : Fifo) (t : State) → g (setFifo x t) ≡ g t) → (l : List ℕ) (s : State)
+    → g (blockWritten l s .state) ≡ g s
 unfolding blockWritten
-block-stands [] s = refl
-block-stands (x ∷ l) s =
-    going (λ (r : Moved). standing (r .state) ≡ standing s) (dataWritten x s .answer) _ _
-    (λ v. block-stands l (dataWritten x s .state) ∙ written-stands x s)
+block-keeps g k [] s = refl
+block-keeps g k (b ∷ l) s =
+    going (λ (r : Moved). g (r .state) ≡ g s) (dataWritten b s .answer) _ _
+    (λ v. block-keeps g k l (dataWritten b s .state) ∙ written-keeps g k b s)
     refl
+
+-- a write to 00 to 16h changes the registers alone
+pub stored-keeps : {A : Type 0} (g : State → A) → ((x : Registers) (t : State) → g (setRegisters x t) ≡ g t) → (a b : ℕ) (s : State)
+    → g (stored a b s) ≡ g s
+unfolding stored
+stored-keeps g k a b s =
+    by-pick So _ (k _ _)
+    (by-pick So _ (k _ _)
+    (by-pick So _ (k _ _)
+    (by-pick So _ (k _ _)
+    (by-pick So _ (k _ _)
+    (by-pick So _ (k _ _)
+    (by-pick So _ (k _ _)
+    (by-pick So _ (k _ _) (by-pick So _ (k _ _) (by-pick So _ (k _ _) (by-pick So _ (k _ _) (k _ _)))))))))))
+  where
+    So : State → Type 0
+    So t = g t ≡ g s
 
 drained : {c : Call} {n : ℕ} {s : State} {z : Standing} → isAnswer c ≡ false
     → (isIncoming (s .transfer .direction) ≡ true → 0 < waits (s .fifo) → waits (s .fifo) ≤ n → ReadsLast c s)
@@ -373,26 +394,12 @@ module _ (m b : ℕ) (s : State) (good : isGood (register m b) ≡ true) where
       (λ e. so (drained {n = 1} refl (λ d v u. B.byte (is-read 0x19 w e) d (omega arith)) (then (pops s) drains-nothing)))
       (λ o. so unmoved)))
 
-  stored-tells : (a : ℕ) → ToldState (register m b) s (stored a b s)
-  unfolding stored
-  stored-tells a =
-      by-pick Told _ (so unmoved)
-      (by-pick Told _ (so unmoved)
-      (by-pick Told _ (so unmoved)
-      (by-pick Told _ (so unmoved)
-      (by-pick Told _ (so unmoved)
-      (by-pick Told _ (so unmoved)
-      (by-pick Told _ (so unmoved)
-      (by-pick Told _ (so unmoved) (by-pick Told _ (so unmoved) (by-pick Told _ (so unmoved) (by-pick Told _ (so unmoved) (so unmoved)))))))))))
-    where
-      Told : State → Type 0
-      Told t = ToldState (register m b) s t
-
   written-tells : isSet m ≡ true → Says (writtenAt (s .status .pointer) b s)
   unfolding writtenAt
   written-tells w =
       by-case Says _ (commanded-tells m b s good w)
-      (λ n. by-pick Says _ (so (rw (written-stands b s) unmoved)) (stored-tells (s .status .pointer)))
+      (λ n. by-pick Says _ (so (rw (written-keeps standing (λ x t. refl) b s) unmoved))
+      (so (rw (stored-keeps standing (λ x t. refl) (s .status .pointer) b s) unmoved)))
 
   at-address-tells : Says (accessedAt (s .status .pointer) (isSet m) b s)
   unfolding accessedAt
@@ -407,4 +414,4 @@ pub block-tells : (m : ℕ) (l : List ℕ) (s : State) → isGood (block m l) �
 block-tells m l s good w = so (drained refl (λ d v u. B.slice good w d v u) (block-drains l s))
 
 pub block-written-tells : (m : ℕ) (l : List ℕ) (s : State) → ToldState (block m l) s (blockWritten l s .state)
-block-written-tells m l s = so (rw (block-stands l s) (silent (λ q. refl)))
+block-written-tells m l s = so (rw (block-keeps standing (λ x t. refl) l s) (silent (λ q. refl)))

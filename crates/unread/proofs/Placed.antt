@@ -1,6 +1,6 @@
 -- Where an ending that has a code to come leaves the connection: as it is, until Reset or Disconnect.
 --   ending-placed   every call but these two keeps the connection, the read of the last byte too
---   stands-placed   where what stands is the same, so is the connection
+--   place           the connection of a state
 --   isWait          the read-out is pending that leads to the wait for reselection
 use mathlib.Core.Path.{_≡_, refl, ap, _∙_}
 use mathlib.Core.Bool.{Bool, true, false}
@@ -13,14 +13,14 @@ use Rattle.chip.specs.Registers as R
 use Rattle.chip.specs.Calls.{Call, Outcome, pointer, auxiliary, register, block, time, answer, reselection, request, free, isSet, carried, step}
 use Rattle.chip.specs.declared.State.{State}
 use Rattle.chip.specs.declared.Reply.{Reply}
+use Rattle.chip.specs.declared.Connection.{Connection}
 use Rattle.chip.specs.declared.Pending.{Pending}
 use Rattle.chip.specs.declared.Pending.the-variants.{Nothing, Interrupt, Ending, ReadOut}
 use Rattle.unread.specs.Status.{isReset, isDisconnect}
 use Rattle.unread.specs.Ending.{isEvent, isDataAccess}
 use Rattle.chip.proofs.Cases.{by-pick, by-test}
 use Rattle.unread.proofs.Choosing.{clash}
-use Rattle.unread.proofs.Telling.{Standing, standing}
-use Rattle.unread.proofs.Host.{Pops, nothing-read, one-read, ending-read, wait-read, pops, going, written-stands, block-stands}
+use Rattle.unread.proofs.Host.{Pops, nothing-read, one-read, ending-read, wait-read, pops, going, written-keeps, block-keeps}
 use Rattle.unread.proofs.Ending.{ending-is-still, host-stays}
 
 abbrev isWait : Pending → Bool
@@ -52,8 +52,8 @@ block-placed (b ∷ l) s n =
     (λ v. let h = pops-placed n (pops s) in then-placed h (block-placed l (R.dataRead s .state) (h .calm)))
     (record { connection = refl; calm = n })
 
-pub stands-placed : (s t : State) → standing t ≡ standing s → t .wire .connection ≡ s .wire .connection
-stands-placed s t e = ap (λ (x : Standing). x .connection) e
+abbrev pub place : State → Connection
+place t = t .wire .connection
 
 abbrev Same : State → Reply → Type 0
 Same s r = r .state .wire .connection ≡ s .wire .connection
@@ -62,7 +62,7 @@ Same s r = r .state .wire .connection ≡ s .wire .connection
 at-data : (w : Bool) (b : ℕ) (s : State) → isWait (s .status .pending) ≡ false
     → R.accessedAt 0x19 w b s .state .wire .connection ≡ s .wire .connection
 unfolding R.accessedAt R.writtenAt R.readAt pick
-at-data true b s n = by-pick (Same s) (R.isBlind true 0x19 s) refl (stands-placed s (R.dataWritten b s .state) (written-stands b s))
+at-data true b s n = by-pick (Same s) (R.isBlind true 0x19 s) refl (written-keeps place (λ x t. refl) b s)
 at-data false b s n = by-pick (Same s) (R.isBlind false 0x19 s) refl (pops-placed n (pops s) .connection)
 
 -- an access to the Data register
@@ -76,7 +76,7 @@ data-placed (register m b) s n d =
     (ap (λ (a : ℕ). R.accessedAt a (isSet m) b s .state .wire .connection) (eqb-true _ _ d) ∙ at-data (isSet m) b s n) refl
 data-placed (block m l) s n d =
     by-pick (λ (o : Outcome). o .state .wire .connection ≡ s .wire .connection) _
-    (by-pick (λ (r : R.Moved). r .state .wire .connection ≡ s .wire .connection) _ (stands-placed s (R.blockWritten l s .state) (block-stands l s)) (block-placed l s n .connection))
+    (by-pick (λ (r : R.Moved). r .state .wire .connection ≡ s .wire .connection) _ (block-keeps place (λ x t. refl) l s) (block-placed l s n .connection))
     refl
 data-placed (time k) s n d = clash d refl
 data-placed answer s n d = clash d refl
