@@ -3,5 +3,7 @@ pub mod Unmoved
 pub mod Belongs
 pub mod Waited
 pub mod TimedOut
+pub mod Goes
+pub mod Requests
 pub mod Connection
 pub mod Refuted
