@@ -1,5 +1,4 @@
--- "Selection timed out" is never read of a disk that answered: what the promise says of the code 42h, over every list of calls from a fresh
--- controller.
+-- What a driver may believe of 42h, "selection timed out", over every list of calls from a fresh controller.
 --   TimedOutIsTrue f   wherever 42h stands unread, nobody is connected, and since that selection began no Answer was taken; it is raised only when
 --                      the time that the host allowed is over
 --   TurnedAway f c s   the call c, made in s, is no Answer, or it is refused

@@ -5,7 +5,7 @@
 --   Selects f c s      the call c, made in s, begins a selection: a Select command, Disconnected, with no command running and no status unread
 --   Unanswered f l     a selection began in l, has gone on since, and no Answer came to it
 --   SelectionsBegun f  .. wherever a selection runs
---   ByFree f l c k     the call c is a Free, or the read that ends the read-out that a Free began
+--   ByFree f l c k     the call c is a Free, or the read of the last byte of an ending with k that has been pending since a Free
 --   CodesOnlyBy f      who raises which code
 use mathlib.Core.Path.{_≡_}
 use mathlib.Core.Bool.{true, false}
