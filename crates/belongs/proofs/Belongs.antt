@@ -11,10 +11,10 @@ use Rattle.chip.specs.Choice.{pick, both, either}
 use Rattle.chip.specs.State.{fresh, setPointer}
 use Rattle.chip.specs.Interrupts.{interrupted, isInterrupt, ends, isEnding, busy}
 use Rattle.chip.specs.Registers as R
-use Rattle.chip.specs.Calls.{Call, Outcome, pointer, auxiliary, register, isGood, carried, step}
+use Rattle.chip.specs.Calls.{Call, Outcome, pointer, auxiliary, register, isByte, isGood, carried, step}
 use Rattle.chip.specs.declared.State.{State}
 use Rattle.chip.specs.declared.Wire.{Wire}
-use Rattle.chip.specs.declared.Answer.the-variants.{Done}
+use Rattle.chip.specs.declared.Answer.the-variants.{Done, Blind}
 use Rattle.chip.specs.declared.Pending.{Pending}
 use Rattle.chip.specs.declared.Pending.the-variants.{Ending}
 use Rattle.chip.proofs.Cases.{by-test, either-last}
@@ -118,7 +118,12 @@ read-gives : (s : State) (o : Outcome) → busy s ≡ false → ReadTold s o →
 read-gives s o n (blind b a k q) = clash b n
 read-gives s o n (read b a k q) = a
 
--- .. and it clears INT
+-- .. and is Blind while one does
+read-hushed : (s : State) (o : Outcome) → busy s ≡ true → ReadTold s o → o .answer ≡ Blind
+read-hushed s o n (blind b a k q) = a
+read-hushed s o n (read b a k q) = clash n b
+
+-- it clears INT
 read-clears : (s : State) (o : Outcome) → busy s ≡ false → ReadTold s o → isInterrupt (o .state .status .pending) ≡ false
 read-clears s o n (blind b a k q) = clash b n
 read-clears s o n (read b a k q) = ap isInterrupt q ∙ cleared-int (s .status .pending)
@@ -127,9 +132,9 @@ pub owed-belongs : (l : List Call) → Belongs l
 owed-belongs = by-calls Belongs nothing-owed one-more
 
 -- the driver's own two calls
-pointed : (s : State) → step (pointer 1 0x17) s .state ≡ setPointer 0x17 s
+pointed : (s : State) (b : ℕ) → isByte b ≡ true → step (pointer 1 b) s .state ≡ setPointer b s
 unfolding step carried isGood R.pointerSet both pick
-pointed s = refl
+pointed s b e = rw e
 
 hears : (s : State) → busy s ≡ false → step (register 0 0) (setPointer 0x17 s) .answer ≡ Done (s .status .code)
 unfolding readsAt isGood both busy
@@ -145,8 +150,10 @@ status-belongs =
     record {
       shown = λ l. shows (run step l fresh);
       heard = λ l i.
-          ap (λ (t : State). step (register 0 0) t .answer) (pointed (run step l fresh))
+          ap (λ (t : State). step (register 0 0) t .answer) (pointed (run step l fresh) 0x17 refl)
           ∙ hears (run step l fresh) (facts (lived l) .int-not-busy i);
+      pointed = λ l. pointed (run step l fresh);
+      hushed = λ l c b r. read-hushed (run step l fresh) _ b (status-read c (run step l fresh) r);
       given = λ l c i r.
           let s : State = run step l fresh in
           let n : busy s ≡ false = facts (lived l) .int-not-busy i in

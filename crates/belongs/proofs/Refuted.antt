@@ -1,7 +1,7 @@
 -- The promise, and the table of the connection, refuse the wrong steps of specs/Wrong.antt: `Law wrong → ⊥`, each at calls from a fresh controller.
 --   late-moves intrudes-moves swallows-taken ticks-moves drops-moves   by StillBus
 --   late-lies intrudes-lies swallows-lies eager-lies hangs-up-lies     by StatusBelongs
---   hides-silent misleads-unheard                                      by StatusBelongs
+--   hides-silent misleads-unheard unblinds-stale                       by StatusBelongs
 --   late-answered poaches-answered impatient-early                     by TimedOutIsTrue
 --   hollow-parts sticky-stays poaches-selects                          by ConnectionGoes
 --   late-wound   what a driver then reads of the disk that has answered: connected, and 42h
@@ -34,7 +34,7 @@ use Rattle.belongs.specs.Belongs.{Causes, at-once, to-come, StatusBelong
 use Rattle.belongs.specs.TimedOut.{Waited, begun, passed, TimedOutIsTrue}
 use Rattle.belongs.specs.Connection as C
 use Rattle.belongs.specs.Connection.{Goes, ConnectionGoes, letsGo}
-use Rattle.belongs.specs.Wrong.{late, intrudes, swallows, ticks, eager, hangsUp, hides, misleads, impatient, poaches, hollow, sticky}
+use Rattle.belongs.specs.Wrong.{late, intrudes, swallows, ticks, eager, hangsUp, hides, misleads, unblinds, impatient, poaches, hollow, sticky}
 
 -- a timeout of 1, a Select, and one unit passes: 42h, unread
 abbrev callsTimedOut : List Call
@@ -120,6 +120,16 @@ hides-silent h = let z : _≡_ {A = ℕ} 0 0x80 = ap value (h .shown callsSelect
 pub misleads-unheard : StatusBelongs misleads → ⊥
 unfolding everything run misleads
 misleads-unheard h = let z : _≡_ {A = ℕ} 0 0x11 = ap value (h .heard callsSelected refl) in omega arith
+
+-- 42h is read; a Select-And-Transfer, and its Target answers; the pointer goes to 17h
+abbrev callsServing : List Call
+callsServing =
+    callsTimedOut
+    ++ (pointer 1 0x17 ∷ register 0 0 ∷ pointer 1 0x18 ∷ register 1 0x08 ∷ answer ∷ pointer 1 0x17 ∷ [])
+
+pub unblinds-stale : StatusBelongs unblinds → ⊥
+unfolding everything run unblinds readsAt
+unblinds-stale h = let z : _≡_ {A = ℕ} 0x42 0xFF = ap value (h .hushed callsServing (register 0 0) refl refl) in omega arith
 
 pub late-answered : TimedOutIsTrue late → ⊥
 unfolding everything run late instead

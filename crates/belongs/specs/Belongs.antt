@@ -13,12 +13,12 @@ use mathlib.Core.List.{List}
 use Prim.Native.Nat.{ℕ}
 use Rattle.chip.specs.Choice.{either}
 use Rattle.chip.specs.Lines.{packed}
-use Rattle.chip.specs.State.{fresh}
+use Rattle.chip.specs.State.{fresh, setPointer}
 use Rattle.chip.specs.Interrupts.{interrupted, ends, busy}
 use Rattle.chip.specs.TransferInfo.{dbr}
-use Rattle.chip.specs.Calls.{Call, Outcome, pointer, auxiliary, register}
+use Rattle.chip.specs.Calls.{Call, Outcome, pointer, auxiliary, register, isByte}
 use Rattle.chip.specs.declared.State.{State}
-use Rattle.chip.specs.declared.Answer.the-variants.{Done}
+use Rattle.chip.specs.declared.Answer.the-variants.{Done, Blind}
 use Rattle.chip.specs.declared.Pending.the-variants.{Ending}
 use Rattle.unread.specs.Status.{isReset, readsAt}
 use Rattle.unread.specs.History.{run}
@@ -60,7 +60,12 @@ pub record StatusBelongs (f : Call → State → Outcome) : Type 0 where
   -- with INT set it sets the pointer to 17h, reads, and hears the code that stands there
   pub heard : (l : List Call) → interrupted (run f l fresh) ≡ true
       → f (register 0 0) (f (pointer 1 0x17) (run f l fresh) .state) .answer ≡ Done (run f l fresh .status .code)
-  -- so does every read of 17h with INT set, and it leaves the bus alone
+  -- the pointer goes where it is set
+  pub pointed : (l : List Call) (b : ℕ) → isByte b ≡ true → f (pointer 1 b) (run f l fresh) .state ≡ setPointer b (run f l fresh)
+  -- while a command runs, an older code is not told: 17h is Blind
+  pub hushed : (l : List Call) (c : Call) → busy (run f l fresh) ≡ true → readsAt 0x17 c (run f l fresh) ≡ true
+      → f c (run f l fresh) .answer ≡ Blind
+  -- every read of 17h with INT set gives the code that stands there, and leaves the bus alone
   pub given : (l : List Call) (c : Call) → interrupted (run f l fresh) ≡ true → readsAt 0x17 c (run f l fresh) ≡ true
       → Gives f (run f l fresh .status .code) c (run f l fresh)
   -- one call is its cause, and since then nothing disturbed it

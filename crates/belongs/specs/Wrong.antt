@@ -7,6 +7,7 @@
 --   hangsUp    the read of a status gives it and disconnects
 --   hides      auxiliary status shows 0 while a status is unread
 --   misleads   the pointer set to 17h goes to 16h
+--   unblinds   17h is read while a command runs: after 42h was read, and the next Target has answered, it gives 42h again
 --   impatient  a Select goes on counting where the last selection stopped
 --   poaches    a Select is taken over a running command while connected: the Target is dropped, and 42h comes for one that had answered
 --   hollow     an Answer to 06 or 07 raises 11h, and the controller is Disconnected
@@ -17,10 +18,11 @@ use Prim.Native.Nat.{ℕ, _+_}
 use lib.Dec.{eqb}
 use Rattle.chip.specs.Choice.{pick, both}
 use Rattle.chip.specs.State.{setPointer, setConnection, setElapsed}
-use Rattle.chip.specs.Interrupts.{interrupted, isRunning, raise}
+use Rattle.chip.specs.Interrupts.{interrupted, isRunning, busy, raise}
 use Rattle.chip.specs.Commands.{isConnected, isDisconnected, selecting}
 use Rattle.chip.specs.Calls.{Call, Outcome, kind, step}
 use Rattle.chip.specs.declared.State.{State}
+use Rattle.chip.specs.declared.Answer.the-variants.{Done}
 use Rattle.chip.specs.declared.Connection.the-variants.{Disconnected, Connected}
 use Rattle.chip.specs.declared.Running.the-variants.{SelectWithAtn}
 use Rattle.reached.specs.Facts.{isSelect}
@@ -104,3 +106,11 @@ sticky =
     (λ c s. both (eqb (kind c) 8)
     (both (isConnected (s .wire .connection)) (both (not (isRunning (s .transfer .running))) (not (interrupted s)))))
     (raise 0x85)
+
+unfoldable pub unblinds : Call → State → Outcome
+unblinds c s =
+    record {
+      answer = pick (both (readsAt 0x17 c s) (busy s)) (Done (s .status .code)) (step c s .answer);
+      state = step c s .state;
+      lent = step c s .lent;
+    }

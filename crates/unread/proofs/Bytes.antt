@@ -242,12 +242,12 @@ disconnect-drops c s e i =
     rw (h .leaves, g)
     (record { pending = refl; connection = refl; running = refl; way = refl; bytes = refl; atn = refl; ack = refl })
 
-reset-drops : (c : Call) (s : State) → isReset c s ≡ true → ResetDropped (step c s .state)
+reset-drops : (c : Call) (s : State) → isReset c s ≡ true → ResetDropped s (step c s .state)
 unfolding isReset commanded reset R.stepped pick
 reset-drops c s e =
     let h : Issued 0x00 c s = issued 0x00 c s e in
     rw (h .leaves, h .code)
-    (record { pending = refl; connection = refl; transfer = refl; bytes = refl; atn = refl; ack = refl })
+    (record { pending = refl; connection = refl; transfer = refl; bytes = refl; atn = refl; ack = refl; identity = refl })
 
 pub ending-stays : EndingStays step
 ending-stays =

@@ -288,8 +288,8 @@ since-began g (C.now l c b) = g c _ b
 since-began g (C.still l c h n) = since-began g h
 
 read-out-since : {k : ℕ} (l : List Call) (c : Call) → ReadsOut c (run step l fresh) k
-    → Since step (λ d s. EndsBy (reasonOf k) d) (λ d s. s .status .pending ≡ Ending k) l
-read-out-since {k} l c h = since-map (λ d s b. begins-by b) (λ d s n. n) (endings-begun .begun l k (h .ending))
+    → Since step (λ d s. EndsBy (reasonOf k) d × Begins d s k) (λ d s. s .status .pending ≡ Ending k) l
+read-out-since {k} l c h = since-map (λ d s b. (begins-by b, b)) (λ d s n. n) (endings-begun .begun l k (h .ending))
 
 module _ (l : List Call) (c : Call) {k : ℕ} (h : Raises step l c k) where
   why : ReadsOut c (run step l fresh) k ⊎ Explains (reasonOf k) c (run step l fresh)
@@ -297,7 +297,7 @@ module _ (l : List Call) (c : Call) {k : ℕ} (h : Raises step l c k) where
 
   -- a code that never comes by an ending
   own : ((d : Call) → EndsBy (reasonOf k) d → ⊥) → Explains (reasonOf k) c (run step l fresh)
-  own n = ⊎-elim (λ r. absurd (since-began (λ d s. n d) (read-out-since l c r))) (λ e. e) why
+  own n = ⊎-elim (λ r. absurd (since-began (λ d s b. n d (b .0)) (read-out-since l c r))) (λ e. e) why
 
 request-only : (l : List Call) (c : Call) (p : Phase) → Raises step l c (0x88 + phaseNumber p) → Explains (asking p) c (run step l fresh)
 unfolding EndsBy

@@ -5,7 +5,7 @@
 --   Selects f c s      the call c, made in s, begins a selection: a Select command, Disconnected, with no command running and no status unread
 --   Unanswered f l     a selection began in l, has gone on since, and no Answer came to it
 --   SelectionsBegun f  .. wherever a selection runs
---   ByFree f l c k     the call c is a Free, or the read of the last byte of an ending with k that has been pending since a Free
+--   ByFree f l c k     the call c is a Free, or the read of the last byte of an ending with k that a Free began
 --   CodesOnlyBy f      who raises which code
 use mathlib.Core.Path.{_≡_}
 use mathlib.Core.Bool.{true, false}
@@ -51,7 +51,7 @@ pub record SelectionsBegun (f : Call → State → Outcome) : Type 0 where
 
 abbrev pub ByFree : (Call → State → Outcome) → List Call → Call → ℕ → Type 0
 ByFree f l c k =
-    (c ≡ free) ⊎ (ReadsOut c (run f l fresh) k × Since f (λ d s. d ≡ free) (λ d s. s .status .pending ≡ Ending k) l)
+    (c ≡ free) ⊎ (ReadsOut c (run f l fresh) k × Since f (λ d s. (d ≡ free) × Begins d s k) (λ d s. s .status .pending ≡ Ending k) l)
 
 pub record CodesOnlyBy (f : Call → State → Outcome) : Type 0 where
   -- 00 only by Reset

@@ -7,9 +7,9 @@
 --   Untouched f c s      the call c, made in s, changes nothing, and the board is not told that it was taken, but for Time
 --   Waits q s t          in t the bytes q wait, in the way of data of s
 --   Dropped t            what a Disconnect that is taken leaves: nothing pending, Disconnected, no command, no way, no byte, no ATN, no ACK
---   ResetDropped t       .. and a Reset, which leaves INT
+--   ResetDropped s t     .. and a Reset made in s, which leaves INT and takes our identity from Own ID
 --   isEvent isTime       the call is a bus event; it is a Time
---   isRefusal a          the answer says "nothing changed": Held, Out of place, Bad number, Reselection ignored
+--   isRefusal a          an event's answer that says "nothing changed": Held, Out of place, Bad number, Reselection ignored
 --   isDataAccess c s     the call c, made in s, is an access to the Data register: at 19h, or a block
 --   isDataRead c s       .. one that reads, with its operands in range
 use mathlib.Core.Path.{_≡_}
@@ -17,6 +17,7 @@ use mathlib.Core.Bool.{Bool, true, false, not}
 use Prim.Native.Nat.{ℕ}
 use lib.Dec.{eqb, leb}
 use Rattle.chip.specs.Choice.{both, either}
+use Rattle.chip.specs.Lines.{ownIdentity}
 use Rattle.chip.specs.State.{empty, nothingRuns}
 use Rattle.chip.specs.Fifo.{front, pop, push}
 use Rattle.chip.specs.Interrupts.{interrupted, ends, isIncoming, isOutgoing, unread}
@@ -80,13 +81,14 @@ pub record Dropped (t : State) : Type 0 where
   pub atn : t .wire .atn ≡ false
   pub ack : t .wire .ack ≡ false
 
-pub record ResetDropped (t : State) : Type 0 where
+pub record ResetDropped (s t : State) : Type 0 where
   pub pending : t .status .pending ≡ Interrupt
   pub connection : t .wire .connection ≡ Disconnected
   pub transfer : t .transfer ≡ nothingRuns
   pub bytes : t .fifo ≡ empty
   pub atn : t .wire .atn ≡ false
   pub ack : t .wire .ack ≡ false
+  pub identity : t .wire .identity ≡ ownIdentity (s .registers .own)
 
 abbrev pub EndingIsStill : (Call → State → Outcome) → Type 0
 EndingIsStill f = (c : Call) (s : State) → ends s ≡ true → isEvent c ≡ true → Untouched f c s
@@ -116,4 +118,4 @@ pub record EndingStays (f : Call → State → Outcome) : Type 0 where
   pub read-out-keeps : (c : Call) (s : State) → BeginsReadOut c s → Waits (s .fifo) s (f c s .state)
   -- what drops it drops it whole
   pub dropped-whole : (c : Call) (s : State) → isDisconnect c s ≡ true → interrupted s ≡ false → Dropped (f c s .state)
-  pub reset-whole : (c : Call) (s : State) → isReset c s ≡ true → ResetDropped (f c s .state)
+  pub reset-whole : (c : Call) (s : State) → isReset c s ≡ true → ResetDropped s (f c s .state)
