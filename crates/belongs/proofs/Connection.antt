@@ -42,6 +42,7 @@ use Rattle.belongs.proofs.StillBus.{lived}
 use Rattle.belongs.proofs.Unmoved.{unmoved}
 use Rattle.belongs.proofs.Goes.{to, ended-stays, reset-parts, free-parts, free-waits, goes-there}
 use Rattle.belongs.proofs.Requests.{request-rests}
+use Rattle.belongs.proofs.Taken.{row-taken, elsewhere}
 
 -- the table is sound: a call that moves the connection is among its rows, and leaves what the row says
 
@@ -247,4 +248,10 @@ goes s x c =
     (λ i. walk s i c)
 
 pub connection-goes : ConnectionGoes step
-connection-goes = record { sound = λ l c. goes (run step l fresh) (lived l) c; complete = λ l c x h. goes-there h }
+connection-goes =
+    record {
+      sound = λ l c. goes (run step l fresh) (lived l) c;
+      complete = λ l c x h. goes-there h;
+      taken = λ l c x v h. row-taken v h;
+      elsewhere = elsewhere;
+    }

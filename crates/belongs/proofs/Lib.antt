@@ -5,5 +5,6 @@ pub mod Waited
 pub mod TimedOut
 pub mod Goes
 pub mod Requests
+pub mod Taken
 pub mod Connection
 pub mod Refuted

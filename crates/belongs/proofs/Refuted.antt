@@ -3,7 +3,7 @@
 --   late-lies intrudes-lies swallows-lies eager-lies hangs-up-lies     by StatusBelongs
 --   hides-silent misleads-unheard unblinds-stale                       by StatusBelongs
 --   late-answered poaches-answered impatient-early                     by TimedOutIsTrue
---   hollow-parts sticky-stays poaches-selects                          by ConnectionGoes
+--   hollow-parts sticky-stays poaches-selects nods-taken barges-taken  by ConnectionGoes
 --   late-wound   what a driver then reads of the disk that has answered: connected, and 42h
 use mathlib.Core.Path.{_≡_, refl, ap}
 use mathlib.Core.Bool.{false}
@@ -13,7 +13,7 @@ use Prim.Native.Nat.{ℕ, _+_, _≤_}
 use native.Mathlib.Omega.{arith}
 use Rattle.chip.specs.State.{fresh}
 use Rattle.chip.specs.Lines.{bit}
-use Rattle.chip.specs.Answers.{value}
+use Rattle.chip.specs.Answers.{number, value}
 use Rattle.chip.specs.Interrupts.{isEnding}
 use Rattle.chip.specs.Commands.{isConnected, isDisconnected}
 use Rattle.chip.specs.Calls.{Call, Outcome, pointer, auxiliary, register, time, answer, reselection, free, step}
@@ -34,7 +34,8 @@ use Rattle.belongs.specs.Belongs.{Causes, at-once, to-come, StatusBelong
 use Rattle.belongs.specs.TimedOut.{Waited, begun, passed, TimedOutIsTrue}
 use Rattle.belongs.specs.Connection as C
 use Rattle.belongs.specs.Connection.{Goes, ConnectionGoes, letsGo}
-use Rattle.belongs.specs.Wrong.{late, intrudes, swallows, ticks, eager, hangsUp, hides, misleads, unblinds, impatient, poaches, hollow, sticky}
+use Rattle.belongs.proofs.Taken.{row-taken}
+use Rattle.belongs.specs.Wrong.{late, intrudes, swallows, ticks, eager, hangsUp, hides, misleads, unblinds, impatient, poaches, nods, barges, hollow, sticky}
 
 -- a timeout of 1, a Select, and one unit passes: 42h, unread
 abbrev callsTimedOut : List Call
@@ -192,3 +193,24 @@ unfolding everything run poaches instead isSelection
 poaches-selects h =
     ⊎-elim (λ e. clash (ap isConnected e) refl) (λ g. clash (ap isDisconnected (selects-apart g)) refl)
     (h .sound (pointer 1 0x18 ∷ register 1 0x09 ∷ answer ∷ []) (register 1 0x06))
+
+-- the table has no row for them: the step itself refuses them
+pub nods-taken : ConnectionGoes nods → ⊥
+unfolding everything run nods instead
+nods-taken h =
+    clash (h .elsewhere (callsTimedOut ++ (pointer 1 0x17 ∷ register 0 0 ∷ [])) answer refl (λ x g. no-row (ap number (row-taken refl g))) .not-taken)
+    refl
+  where
+    no-row : _≡_ {A = ℕ} 2 0 → ⊥
+    no-row z = omega arith
+
+pub barges-taken : ConnectionGoes barges → ⊥
+unfolding everything run barges instead
+barges-taken h =
+    clash
+    (h .elsewhere (callsSelected ++ (pointer 1 0x17 ∷ register 0 0 ∷ [])) (reselection 0x88) refl
+    (λ x g. no-row (ap number (row-taken refl g))) .not-taken)
+    refl
+  where
+    no-row : _≡_ {A = ℕ} 6 0 → ⊥
+    no-row z = omega arith

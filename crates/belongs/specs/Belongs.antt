@@ -5,7 +5,7 @@
 --   Causes c s k        the call c, made in s, is the cause of the code k, by the table `Because` (room unread): it raises k, or it begins an ending
 --                       that has k to come
 --   Owes k s            the code k is owed: it is to come at the end of an ending, or it stands at 17h and nobody has read it
---   Undisturbed f k c s   the call c, made in s, finds the code k owed, and disturbs neither the bus nor who is connected
+--   Undisturbed f k c s   the call c, made in s, finds the code k owed, and disturbs neither bus nor connection
 --   Gives f k c s       the call c, made in s, is answered with the code k, and leaves bus and command as they were
 use mathlib.Core.Path.{_≡_}
 use mathlib.Core.Bool.{true, not}
@@ -43,7 +43,7 @@ pub record Undisturbed (f : Call → State → Outcome) (k : ℕ) (c : Call) (s 
   pub owed : Owes k s
   -- no bus event changes anything, nor is it taken
   pub still : isEvent c ≡ true → Untouched f c s
-  -- nothing that the host does changes who is connected ..
+  -- nothing that the host does changes the connection ..
   pub placed : f c s .state .wire .connection ≡ s .wire .connection
   -- .. and, once the code is raised, nothing on the bus and no command
   pub bus : interrupted s ≡ true → f c s .state .wire ≡ s .wire

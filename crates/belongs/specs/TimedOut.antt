@@ -1,6 +1,6 @@
 -- What a driver may believe of 42h, "selection timed out", over every list of calls from a fresh controller.
 --   TimedOutIsTrue f   wherever 42h stands unread, nobody is connected, and since that selection began no Answer was taken; it is raised only when
---                      the time that the host allowed is over
+--                      the time in register 02 is over
 --   TurnedAway f c s   the call c, made in s, is no Answer, or it is refused
 --   Waited f n l       a selection began in l, has gone on since with no Answer, and n units of time have passed
 --   RanOut f l c       after the calls l, the call c uses up the timeout of the selection that runs
@@ -41,7 +41,7 @@ pub data Waited (f : Call → State → Outcome) : ℕ → List Call → Type 0 
   passed : {n : ℕ} (l : List Call) (c : Call) → Waited f n l → run f l fresh .wire .connection ≡ Selecting → isAnswer c ≡ false
       → Waited f (n + units c) (l ++ (c ∷ []))
 
--- the timeout that the host has set is over: register 02 is not 0, and so many units have passed since the selection began
+-- the timeout in register 02 is over: register 02 is not 0, and so many units have passed since the selection began
 pub record RanOut (f : Call → State → Outcome) (l : List Call) (c : Call) : Type 0 where
   pub limited : eqb (run f l fresh .registers .timeout) 0 ≡ false
   pub waited : ℕ

@@ -10,6 +10,8 @@
 --   unblinds   17h is read while a command runs: after 42h was read, and the next Target has answered, it gives 42h again
 --   impatient  a Select goes on counting where the last selection stopped
 --   poaches    a Select is taken over a running command while connected: the Target is dropped, and 42h comes for one that had answered
+--   nods       an Answer while Disconnected is Done, and nothing happens: the board takes its disk for connected
+--   barges     a Reselection while connected is Done, and rewrites 16h: one disk takes the place of another
 --   hollow     an Answer to 06 or 07 raises 11h, and the controller is Disconnected
 --   sticky     a Free, connected and idle, raises 85h, and the controller stays connected
 -- `drops` of room unread, a Time that forgets an ending with its code, is refuted here too.
@@ -17,7 +19,7 @@ use mathlib.Core.Bool.{Bool, not}
 use Prim.Native.Nat.{ℕ, _+_}
 use lib.Dec.{eqb}
 use Rattle.chip.specs.Choice.{pick, both}
-use Rattle.chip.specs.State.{setPointer, setConnection, setElapsed}
+use Rattle.chip.specs.State.{setSource, setPointer, setConnection, setElapsed}
 use Rattle.chip.specs.Interrupts.{interrupted, isRunning, busy, raise}
 use Rattle.chip.specs.Commands.{isConnected, isDisconnected, selecting}
 use Rattle.chip.specs.Calls.{Call, Outcome, kind, step}
@@ -114,3 +116,11 @@ unblinds c s =
       state = step c s .state;
       lent = step c s .lent;
     }
+
+unfoldable pub nods : Call → State → Outcome
+unfolding instead
+nods = instead (λ c s. both (eqb (kind c) 5) (isDisconnected (s .wire .connection))) (λ s. s)
+
+unfoldable pub barges : Call → State → Outcome
+unfolding instead
+barges = instead (λ c s. both (eqb (kind c) 6) (isConnected (s .wire .connection))) (setSource 0x8B)

@@ -2,7 +2,7 @@
 --   ending-is-still   the law of the bus events
 --   pending-stays     only a Reset, a Disconnect while connected or the read of its last byte ends an ending
 --   Stays host-stays  every call of the host but these and accesses to the Data register leaves FIFO, command, way and connection
---   Refuses refuses-bad   nothing changed, and the answer is a refusal
+--   Refuses refuses refuses-bad   nothing changed, and the answer is a refusal
 --   Stands stands-still   where every event comes to that, but for Time, the bus stands still
 use mathlib.Core.Path.{_≡_, refl, ap, _∙_}
 use mathlib.Core.Bool.{Bool, true, false, not}
@@ -45,7 +45,7 @@ pub record Refuses (s : State) (r : Reply) : Type 0 where
   pub same : r .state ≡ s
   pub refused : isRefusal (r .answer) ≡ true
 
-refuses : (c : Call) (s : State) (r : Reply) → step c s ≡ plain r → Refuses s r → Untouched step c s
+pub refuses : (c : Call) (s : State) (r : Reply) → step c s ≡ plain r → Refuses s r → Untouched step c s
 unfolding either
 refuses c s r e h =
     record { same = ap (λ (o : Outcome). o .state) e ∙ h .same; not-taken = rw (e, h .refused) (either-last (isTime c)) }

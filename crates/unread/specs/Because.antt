@@ -17,7 +17,7 @@
 --   wants p b s          the running command wants it: a byte of it would cross, were there room or a byte
 --   fits p s             there is room for a byte of phase p
 --   halts m s            with the parity m a byte that would be taken in is not: it halts the transfer
---   isSpent s            the running command is a Transfer Info whose count is used up
+--   isSpent s            no Select-And-Transfer runs, and no byte is left
 --   isOut d              the direction d is out
 use mathlib.Core.Path.{_≡_}
 use mathlib.Core.Bool.{Bool, true, false, not}
@@ -216,7 +216,7 @@ pub data Because : Call → State → ℕ → Type 0 where
   -- 40h: a command that is not valid, and no command runs
   refuses : {c : Call} {s : State} (k : ℕ) → isCommand k c s ≡ true → eqb k 0x00 ≡ false → Quiet s
       → isRunning (s .transfer .running) ≡ false → isValid k s ≡ false → Because c s 0x40
-  -- 42h: Time, selecting, when the units reach register 02, which is not 0
+  -- 42h: Time, selecting, when the units that have added up reach register 02, which is not 0
   times-out : {n : ℕ} {s : State} → isGood (time n) ≡ true → Quiet s → s .wire .connection ≡ Selecting
       → eqb (s .registers .timeout) 0 ≡ false → leb (s .registers .timeout) (s .wire .elapsed + n) ≡ true
       → Because (time n) s 0x42

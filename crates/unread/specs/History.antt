@@ -1,4 +1,5 @@
--- What becomes of the status at 17h over any list of calls: no code is lost and none is stale, the code that an ending holds back included.
+-- What becomes of the status at 17h over any list of calls: no code is lost, the one that an ending holds back included, and a read gives
+-- the last one raised.
 --   Happening             one thing that a call does to the status: a code raised, a Reset, a read of 17h, an ending begun, a Disconnect in it
 --   noted c s o           what the call c did, made in s and with the outcome o
 --   readBy a              .. where it reads 17h and is answered a
@@ -145,7 +146,7 @@ pub record NoStatusLost (f : Call → State → Outcome) : Type 0 where
   pub code-is-last : (l : List Call) (s : State) → run f l s .status .code ≡ lastCode (s .status .code) (history f l s)
   pub pending-is-owed : (l : List Call) (s : State)
       → owedBy (run f l s .status .pending) ≡ owedAfter (owedBy (s .status .pending)) (history f l s)
-  -- none is lost, none is stale
+  -- none is lost, and a read gives the last
   pub orderly : (l : List Call) (s : State) → Orderly (s .status .code) (owedBy (s .status .pending)) (history f l s)
   -- between two raised codes stands a read of 17h, or the later one is Reset's
   pub read-between : (l : List Call) (s : State) (g h j : List Happening) (x : Happening) (k : ℕ)
