@@ -2,7 +2,7 @@
 --   late-moves intrudes-moves swallows-taken ticks-moves drops-moves   by StillBus
 --   late-lies intrudes-lies swallows-lies eager-lies hangs-up-lies     by StatusBelongs
 --   hides-silent misleads-unheard unblinds-stale                       by StatusBelongs
---   late-answered poaches-answered impatient-early                     by TimedOutIsTrue
+--   late-answered poaches-answered impatient-early dawdles-hangs       by TimedOutIsTrue
 --   hollow-parts sticky-stays poaches-selects nods-taken barges-taken  by ConnectionGoes
 --   late-wound   what a driver then reads of the disk that has answered: connected, and 42h
 use mathlib.Core.Path.{_≡_, refl, ap}
@@ -23,6 +23,7 @@ use Rattle.chip.specs.declared.Connection.the-variants.{Disconnected, Selecting
 use Rattle.chip.proofs.Computing.{everything}
 use Rattle.unread.specs.Status.{isCommand, isReset, isSelection, readsAt, raised}
 use Rattle.unread.specs.History.{run}
+use Rattle.unread.specs.Codes.{Selects}
 use Rattle.unread.specs.Wrong.{instead, drops}
 use Rattle.unread.proofs.Choosing.{clash}
 use Rattle.unread.proofs.Telling.{isSelecting}
@@ -35,7 +36,7 @@ use Rattle.belongs.specs.TimedOut.{Waited, begun, passed, TimedOutIsTrue
 use Rattle.belongs.specs.Connection as C
 use Rattle.belongs.specs.Connection.{Goes, ConnectionGoes, letsGo}
 use Rattle.belongs.proofs.Taken.{row-taken}
-use Rattle.belongs.specs.Wrong.{late, intrudes, swallows, ticks, eager, hangsUp, hides, misleads, unblinds, impatient, poaches, nods, barges, hollow, sticky}
+use Rattle.belongs.specs.Wrong.{late, intrudes, swallows, ticks, eager, hangsUp, hides, misleads, unblinds, dawdles, impatient, poaches, nods, barges, hollow, sticky}
 
 -- a timeout of 1, a Select, and one unit passes: 42h, unread
 abbrev callsTimedOut : List Call
@@ -214,3 +215,17 @@ barges-taken h =
   where
     no-row : _≡_ {A = ℕ} 6 0 → ⊥
     no-row z = omega arith
+
+-- a timeout of 2, a Select
+abbrev callsCalling : List Call
+callsCalling = pointer 1 0x02 ∷ register 1 0x02 ∷ pointer 1 0x18 ∷ []
+
+-- one unit has passed, and one more makes two
+pub dawdles-hangs : TimedOutIsTrue dawdles → ⊥
+unfolding everything run dawdles isSelection isCommand isReset raised
+dawdles-hangs h =
+    let b : Selects dawdles (register 1 0x06) (run dawdles callsCalling fresh) =
+    record { command = refl; apart = refl; idle = refl; all-told = refl; selecting = refl } in
+    let w : Waited dawdles 1 (callsCalling ++ (register 1 0x06 ∷ time 1 ∷ [])) =
+    passed (callsCalling ++ (register 1 0x06 ∷ [])) (time 1) (begun callsCalling (register 1 0x06) b) refl refl in
+    clash (h .comes (callsCalling ++ (register 1 0x06 ∷ time 1 ∷ [])) 1 1 refl w refl refl (omega arith) .raises) refl

@@ -6,7 +6,7 @@ use mathlib.Core.List.{List, [], _∷_, _++_}
 use Prim.Native.Nat.{ℕ, _+_, _≤_}
 use native.Mathlib.Omega.{arith}
 use lib.Dec.{eqb}
-use borrow.Author.Tests.{leb-true}
+use borrow.Author.Tests.{leb-true, le-leb}
 use Rattle.chip.specs.Choice.{pick, either}
 use Rattle.chip.specs.State.{fresh}
 use Rattle.chip.specs.Interrupts.{interrupted, raise, outgoingDropped}
@@ -19,6 +19,7 @@ use Rattle.chip.specs.declared.Connection.the-variants.{Disconnected, Selecting
 use Rattle.chip.proofs.Cases.{by-pick, by-case, by-test}
 use Rattle.unread.specs.Status.{isReset, isCommand, isAnswer, raised}
 use Rattle.unread.specs.History.{run}
+use Rattle.unread.specs.Because.{Because, times-out}
 use Rattle.unread.specs.Codes as C
 use Rattle.unread.specs.Codes.{Raises, Since, Selects}
 use Rattle.unread.proofs.Choosing.{clash}
@@ -26,9 +27,9 @@ use Rattle.unread.proofs.Unread.{raised-from-quiet, raised-sets-int}
 use Rattle.unread.proofs.Because.{raised-because}
 use Rattle.unread.proofs.Codes.{run-more, since-map, time-ends-nothing, codes-only-by}
 use Rattle.belongs.specs.Belongs.{Causes, at-once, to-come, unread, Undisturbed}
-use Rattle.belongs.specs.TimedOut.{units, TurnedAway, RanOut, TimedOutIsTrue}
+use Rattle.belongs.specs.TimedOut.{units, Waited, TurnedAway, RanOut, TimedOutIsTrue}
 use Rattle.belongs.proofs.Belongs.{owed-belongs}
-use Rattle.belongs.proofs.Waited.{HasWaited, waits-for, has-waited}
+use Rattle.belongs.proofs.Waited.{selecting-quiet, HasWaited, waits-for, has-waited, all-added}
 
 -- a Time that raises a code while selecting: the timeout is over, and it leaves the controller Disconnected
 record Over (n : ℕ) (s t : State) : Type 0 where
@@ -79,6 +80,16 @@ ran-out l c r = from (has-waited l (codes-only-by .by-time l c r .2)) (raised-ov
     from : HasWaited l → Over (units c) (run step l fresh) (step c (run step l fresh) .state) → RanOut step l c
     from (waits-for n w m) o = record { limited = o .limited; waited = n; selected = w; over = omega (arith, o .over) }
 
+comes : (l : List Call) (n w : ℕ) → isGood (time n) ≡ true → Waited step w l → run step l fresh .wire .connection ≡ Selecting
+    → eqb (run step l fresh .registers .timeout) 0 ≡ false → run step l fresh .registers .timeout ≤ w + n → Raises step l (time n) 0x42
+comes l n w g v x z o =
+    let b : Because (time n) (run step l fresh) 0x42 =
+    times-out g (selecting-quiet l x) x z (le-leb (run step l fresh .registers .timeout) (run step l fresh .wire .elapsed + n) (omega (arith, all-added v x z))) in
+    record {
+      raises = raised-because .complete (time n) (run step l fresh) 0x42 b;
+      code = raised-because .code (time n) (run step l fresh) 0x42 b;
+    }
+
 no-answer : (c : Call) (n : ℕ) → c ≡ time n → isAnswer c ≡ false
 no-answer c n e = ap isAnswer e
 
@@ -128,4 +139,5 @@ timed-out-is-true =
       apart = λ l i e. missed (owed-belongs l 0x42 (unread i e)) .apart;
       nobody = λ l i e. missed (owed-belongs l 0x42 (unread i e)) .nobody;
       ran-out = ran-out;
+      comes = comes;
     }

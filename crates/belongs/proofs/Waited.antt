@@ -1,5 +1,6 @@
 -- How long a selection has waited: the units that have added up are no more than those that have passed since it began.
 --   HasWaited has-waited   of a list of calls after which a selection runs
+--   all-added      .. and no fewer, where register 02 is not 0
 --   elapsed-grows  one call adds its own units at most, while the selection goes on
 --   begins-at-zero a selection begins with none
 use mathlib.Core.Path.{_≡_, refl, sym, ap, subst, _∙_}
@@ -10,11 +11,11 @@ use Prim.Native.Nat.{ℕ, _+_, _≤_}
 use native.Mathlib.Omega.{arith}
 use lib.Dec.{eqb}
 use borrow.Author.Tests.{eq-eqb}
-use Rattle.chip.specs.Choice.{pick, both}
+use Rattle.chip.specs.Choice.{pick, both, either}
 use Rattle.chip.specs.Phases.{phaseOf}
 use Rattle.chip.specs.Lines.{codeOf}
 use Rattle.chip.specs.State.{fresh}
-use Rattle.chip.specs.Interrupts.{isEnding, unlessInterrupt, raise, outgoingDropped}
+use Rattle.chip.specs.Interrupts.{isInterrupt, isEnding, isRunning, busy, unlessInterrupt, raise, outgoingDropped}
 use Rattle.chip.specs.Commands.{isConnected, aborted, disconnected, selecting, transferring, informing, accepted, carriedOut, commanded, reset}
 use Rattle.chip.specs.Count.{loadedInfo}
 use Rattle.chip.specs.Registers as R
@@ -22,7 +23,6 @@ use Rattle.chip.specs.Events as E
 use Rattle.chip.specs.Calls.{Call, Outcome, pointer, auxiliary, register, block, time, answer, reselection, request, free, isGood, isSet, carried, step}
 use Rattle.chip.specs.declared.State.{State}
 use Rattle.chip.specs.declared.Reply.{Reply}
-use Rattle.chip.specs.declared.Wire.{Wire}
 use Rattle.chip.specs.declared.Fifo.{Fifo}
 use Rattle.chip.specs.declared.Noted.{Noted}
 use Rattle.chip.specs.declared.Pending.{Pending}
@@ -32,7 +32,8 @@ use Rattle.chip.specs.declared.Direction.{Direction}
 use Rattle.chip.specs.declared.Connection.{Connection}
 use Rattle.chip.specs.declared.Connection.the-variants.{Disconnected, Selecting}
 use Rattle.chip.proofs.Cases.{by-pick, by-case, by-test, both-first, both-second}
-use Rattle.reached.specs.Sound.{Shape, idle, selects, waits, transfers, informs, ending, readOut, apart, joined}
+use Rattle.reached.specs.Sound as S
+use Rattle.reached.specs.Sound.{six, seven, eight, nine, Shape, idle, selects, waits, transfers, informs, ending, readOut, apart, joined}
 use Rattle.unread.specs.Status.{isCommandOf, isCommand, isSelectCode, isSelection, isAnswer}
 use Rattle.unread.specs.History.{run}
 use Rattle.unread.specs.Because.{Quiet}
@@ -40,30 +41,39 @@ use Rattle.unread.specs.Codes.{Selects}
 use Rattle.unread.proofs.Choosing.{clash}
 use Rattle.unread.proofs.Telling.{isSelecting}
 use Rattle.unread.proofs.Told.{Issued, issued}
-use Rattle.unread.proofs.Host.{Pops, nothing-read, one-read, ending-read, wait-read, pops, going, written-keeps, block-keeps, stored-keeps, valid-apart}
+use Rattle.unread.proofs.Host.{Pops, nothing-read, one-read, ending-read, wait-read, pops, going, written-keeps, block-keeps, valid-apart}
 use Rattle.unread.proofs.Codes.{run-more, by-calls, since-end, selections-begun}
 use Rattle.unread.specs.Ending.{isTime}
+use Rattle.unread.proofs.Ending.{unreachable}
 use Rattle.belongs.proofs.StillBus.{lived}
 use Rattle.belongs.specs.TimedOut.{units, Waited, begun, passed}
 
--- the Data register leaves the bus, but for the read-out that leads to a wait
-pops-wire : {s t : State} → Quiet s → Pops s t → (t .wire ≡ s .wire) × Quiet t
-pops-wire q nothing-read = (refl, q)
-pops-wire q (one-read d w) = (refl, q)
-pops-wire q (ending-read d w e) = clash refl (ap isEnding (sym e ∙ q))
-pops-wire q (wait-read d w e) = clash refl (ap isEnding (sym e ∙ q))
+-- the units that have added up, and register 02
+record Clock : Type 0 where
+  elapsed : ℕ
+  timeout : ℕ
 
-block-wire : (l : List ℕ) (s : State) → Quiet s → R.blockRead l s .state .wire ≡ s .wire
+abbrev clock : State → Clock
+clock t = record { elapsed = t .wire .elapsed; timeout = t .registers .timeout }
+
+-- with nothing pending, reads of the Data register leave both
+pops-clock : {s t : State} → Quiet s → Pops s t → (clock t ≡ clock s) × Quiet t
+pops-clock q nothing-read = (refl, q)
+pops-clock q (one-read d w) = (refl, q)
+pops-clock q (ending-read d w e) = clash refl (ap isEnding (sym e ∙ q))
+pops-clock q (wait-read d w e) = clash refl (ap isEnding (sym e ∙ q))
+
+block-clock : (l : List ℕ) (s : State) → Quiet s → clock (R.blockRead l s .state) ≡ clock s
 unfolding R.blockRead
-block-wire [] s q = refl
-block-wire (b ∷ l) s q =
-    going (λ (m : R.Moved). m .state .wire ≡ s .wire) (R.dataRead s .answer) _ _
-    (λ v. let h = pops-wire q (pops s) in block-wire l (R.dataRead s .state) (h .1) ∙ h .0) refl
+block-clock [] s q = refl
+block-clock (b ∷ l) s q =
+    going (λ (m : R.Moved). clock (m .state) ≡ clock s) (R.dataRead s .answer) _ _
+    (λ v. let h = pops-clock q (pops s) in block-clock l (R.dataRead s .state) (h .1) ∙ h .0) refl
 
--- while a selection goes on, the units stay
-module _ (s : State) (x : s .wire .connection ≡ Selecting) (q : Quiet s) where
+-- while a selection goes on, both stay
+module _ (s : State) (x : s .wire .connection ≡ Selecting) (q : Quiet s) (r : busy s ≡ true) where
   abbrev Stays : State → Type 0
-  Stays t = t .wire .connection ≡ Selecting → t .wire .elapsed ≡ s .wire .elapsed
+  Stays t = t .wire .connection ≡ Selecting → clock t ≡ clock s
 
   abbrev So : Reply → Type 0
   So r = Stays (r .state)
@@ -85,26 +95,22 @@ module _ (s : State) (x : s .wire .connection ≡ Selecting) (q : Quiet s) where
       (λ k. clash (ap isSelecting x) (valid-apart (codeOf b) s z k v)))
       (λ v e. refl))))
 
-  kept : {w : Wire} → w ≡ s .wire → w .connection ≡ Selecting → w .elapsed ≡ s .wire .elapsed
-  kept f e = ap (λ (v : Wire). v .elapsed) f
-
-  written-stays : (b : ℕ) → So (R.writtenAt (s .status .pointer) b s)
+  written-stays : (w : Bool) (b : ℕ) → R.isBlind w (s .status .pointer) s ≡ false → So (R.writtenAt (s .status .pointer) b s)
   unfolding R.writtenAt
-  written-stays b =
-      by-pick So _ (commanded-stays b)
-      (by-pick So _ (kept (written-keeps (λ (t : State). t .wire) (λ x t. refl) b s)) (kept (stored-keeps (λ (t : State). t .wire) (λ x t. refl) (s .status .pointer) b s)))
+  written-stays w b h =
+      by-case So _ (λ a. commanded-stays b)
+      (λ m. by-case So _ (λ a e. written-keeps clock (λ x t. refl) b s) (λ n. unreachable s w (s .status .pointer) r h m n))
 
   read-stays : (a : ℕ) → So (R.readAt a s)
   unfolding R.readAt
   read-stays a =
-      by-pick So _ (λ e. refl) (by-pick So _ (λ e. refl) (by-pick So _ (kept (pops-wire q (pops s) .0)) (λ e. refl)))
+      by-pick So _ (λ e. refl) (by-pick So _ (λ e. refl) (by-pick So _ (λ e. pops-clock q (pops s) .0) (λ e. refl)))
 
   access-stays : (m b : ℕ) → So (R.accessed (isSet m) b s)
   unfolding R.accessed R.stepped R.accessedAt
   access-stays m b =
-      let h : So (R.accessedAt (s .status .pointer) (isSet m) b s) =
-      by-pick So _ (λ e. refl) (by-pick So _ (written-stays b) (read-stays (s .status .pointer))) in
-      h
+      by-case (λ (y : Reply). So (R.stepped (s .status .pointer) y)) _ (λ h e. refl)
+      (λ h. by-pick (λ (y : Reply). So (R.stepped (s .status .pointer) y)) _ (written-stays (isSet m) b h) (read-stays (s .status .pointer)))
 
   by-place : (P : Connection → Type 0) → P Selecting → P (s .wire .connection)
   by-place P h = subst P (sym x) h
@@ -124,7 +130,7 @@ module _ (s : State) (x : s .wire .connection ≡ Selecting) (q : Quiet s) where
   call-stays (register m b) t a = by-pick Leads _ (access-stays m b) (λ e. refl)
   call-stays (block m l) t a =
       by-pick Leads _
-      (by-pick (λ (r : R.Moved). Stays (r .state)) _ (kept (block-keeps (λ (t : State). t .wire) (λ x t. refl) l s)) (kept (block-wire l s q)))
+      (by-pick (λ (r : R.Moved). Stays (r .state)) _ (λ e. block-keeps clock (λ x t. refl) l s) (λ e. block-clock l s q))
       (λ e. refl)
   call-stays (time n) t a = clash refl t
   call-stays answer t a = clash refl a
@@ -135,34 +141,49 @@ module _ (s : State) (x : s .wire .connection ≡ Selecting) (q : Quiet s) where
       (λ e. refl)
   call-stays free t a = by-pick Leads _ (by-place (λ (y : Connection). So (E.freedBy y s)) (λ e. refl)) (λ e. refl)
 
--- Time adds its own units at most
+-- Time adds its own units, where register 02 is not 0, and leaves that register
+record Ticks (n : ℕ) (s t : State) : Type 0 where
+  timeout : t .registers .timeout ≡ s .registers .timeout
+  most : t .wire .elapsed ≤ s .wire .elapsed + n
+  least : eqb (s .registers .timeout) 0 ≡ false → s .wire .elapsed + n ≤ t .wire .elapsed
+
 abbrev Grows : ℕ → State → Reply → Type 0
-Grows n s r = r .state .wire .connection ≡ Selecting → r .state .wire .elapsed ≤ s .wire .elapsed + n
+Grows n s r = r .state .wire .connection ≡ Selecting → Ticks n s (r .state)
 
-passed-grows : (n : ℕ) (s : State) → s .wire .connection ≡ Selecting → Grows n s (E.passed n s)
+passed-grows : (n : ℕ) (s : State) → s .wire .connection ≡ Selecting → Quiet s → Grows n s (E.passed n s)
 unfolding E.passed E.selectionTime E.timedOut raise outgoingDropped
-passed-grows n s x =
-    by-pick (Grows n s) _ (λ e. omega arith)
-    (subst (λ (y : Connection). Grows n s (E.passedBy y n s)) (sym x)
-    (by-pick (Grows n s) _ (λ e. omega arith)
-    (by-pick (Grows n s) _ (λ e. omega arith) (by-pick (Grows n s) _ (λ e. clash (ap isSelecting e) refl) (λ e. omega arith)))))
+passed-grows n s x q =
+    by-case (Grows n s) _ (λ f. clash f (ap isEnding q))
+    (λ f. subst (λ (y : Connection). Grows n s (E.passedBy y n s)) (sym x)
+    (by-case (Grows n s) _ (λ i. clash i (ap isInterrupt q))
+    (λ i. by-case (Grows n s) _ (λ z e. record { timeout = refl; most = omega arith; least = λ m. clash z m })
+    (λ z. by-pick (Grows n s) _ (λ e. clash (ap isSelecting e) refl)
+    (λ e. record { timeout = refl; most = omega arith; least = λ m. omega arith })))))
 
-time-grows : (n : ℕ) (s : State) → s .wire .connection ≡ Selecting → step (time n) s .state .wire .connection ≡ Selecting
-    → step (time n) s .state .wire .elapsed ≤ s .wire .elapsed + units (time n)
+time-grows : (n : ℕ) (s : State) → s .wire .connection ≡ Selecting → Quiet s → step (time n) s .state .wire .connection ≡ Selecting
+    → Ticks (units (time n)) s (step (time n) s .state)
 unfolding step carried pick
-time-grows n s x = by-test (isGood (time n)) (λ g. rw g (passed-grows n s x)) (λ g. rw g (λ e. omega arith))
+time-grows n s x q =
+    by-test (isGood (time n)) (λ g. rw g (passed-grows n s x q))
+    (λ g. rw g (λ e. record { timeout = refl; most = omega arith; least = λ m. omega arith }))
 
-elapsed-grows : (c : Call) (s : State) → s .wire .connection ≡ Selecting → Quiet s → isAnswer c ≡ false
-    → step c s .state .wire .connection ≡ Selecting → step c s .state .wire .elapsed ≤ s .wire .elapsed + units c
-elapsed-grows (pointer m b) s x q a e = omega (arith, call-stays s x q (pointer m b) refl a e)
-elapsed-grows auxiliary s x q a e = omega (arith, call-stays s x q auxiliary refl a e)
-elapsed-grows (register m b) s x q a e = omega (arith, call-stays s x q (register m b) refl a e)
-elapsed-grows (block m l) s x q a e = omega (arith, call-stays s x q (block m l) refl a e)
-elapsed-grows (time n) s x q a e = time-grows n s x e
-elapsed-grows answer s x q a e = clash refl a
-elapsed-grows (reselection lines) s x q a e = omega (arith, call-stays s x q (reselection lines) refl a e)
-elapsed-grows (request p b z) s x q a e = omega (arith, call-stays s x q (request p b z) refl a e)
-elapsed-grows free s x q a e = omega (arith, call-stays s x q free refl a e)
+of-clock : {s t : State} → clock t ≡ clock s → Ticks 0 s t
+of-clock e =
+    let k = ap (λ (c : Clock). c .elapsed) e in
+    record { timeout = ap (λ (c : Clock). c .timeout) e; most = omega (arith, k); least = λ m. omega (arith, k) }
+
+-- one call of a selection that goes on
+elapsed-grows : (c : Call) (s : State) → s .wire .connection ≡ Selecting → Quiet s → busy s ≡ true → isAnswer c ≡ false
+    → step c s .state .wire .connection ≡ Selecting → Ticks (units c) s (step c s .state)
+elapsed-grows (pointer m b) s x q r a e = of-clock (call-stays s x q r (pointer m b) refl a e)
+elapsed-grows auxiliary s x q r a e = of-clock (call-stays s x q r auxiliary refl a e)
+elapsed-grows (register m b) s x q r a e = of-clock (call-stays s x q r (register m b) refl a e)
+elapsed-grows (block m l) s x q r a e = of-clock (call-stays s x q r (block m l) refl a e)
+elapsed-grows (time n) s x q r a e = time-grows n s x q e
+elapsed-grows answer s x q r a e = clash refl a
+elapsed-grows (reselection lines) s x q r a e = of-clock (call-stays s x q r (reselection lines) refl a e)
+elapsed-grows (request p b z) s x q r a e = of-clock (call-stays s x q r (request p b z) refl a e)
+elapsed-grows free s x q r a e = of-clock (call-stays s x q r free refl a e)
 
 -- a command that finds the controller Disconnected and leaves it selecting starts at 0
 module _ (s : State) (x : s .wire .connection ≡ Disconnected) where
@@ -224,18 +245,40 @@ selection-command free s e = clash e refl
 begins-at-zero : (c : Call) (s : State) → Selects step c s → step c s .state .wire .elapsed ≡ 0
 begins-at-zero c s h = let k = selection-command c s (h .command) in command-zero s (h .apart) (k .0) c (k .1) (h .selecting)
 
--- a reached state that selects has nothing pending
-at-rest : {one : Bool} {n : ℕ} {p : Pending} {r : Running} {c : Connection} {d : Direction} {f : Fifo} {atn ack : Bool} {w : Noted}
-    → isSelecting c ≡ true → Shape one n p r c d f atn ack w → p ≡ Nothing
-at-rest e (idle a b c apart) = clash e refl
-at-rest e (idle a b c joined) = clash e refl
-at-rest e (selects a b c) = refl
-at-rest e (waits a b) = clash e refl
-at-rest e (transfers a b) = clash e refl
-at-rest e (informs a b) = clash e refl
-at-rest e (ending a b apart) = clash e refl
-at-rest e (ending a b joined) = clash e refl
-at-rest e (readOut a b) = clash e refl
+-- a reached state that selects has nothing pending, and its command runs
+select-runs : {r : Running} → S.Selects r → isRunning r ≡ true
+select-runs six = refl
+select-runs seven = refl
+select-runs eight = refl
+select-runs nine = refl
+
+at-work : {one : Bool} {n : ℕ} {p : Pending} {r : Running} {c : Connection} {d : Direction} {f : Fifo} {atn ack : Bool} {w : Noted}
+    → isSelecting c ≡ true → Shape one n p r c d f atn ack w → (p ≡ Nothing) × (isRunning r ≡ true)
+at-work e (idle a b c apart) = clash e refl
+at-work e (idle a b c joined) = clash e refl
+at-work e (selects a b c) = (refl, select-runs a)
+at-work e (waits a b) = clash e refl
+at-work e (transfers a b) = clash e refl
+at-work e (informs a b) = clash e refl
+at-work e (ending a b apart) = clash e refl
+at-work e (ending a b joined) = clash e refl
+at-work e (readOut a b) = clash e refl
+
+pub selecting-quiet : (l : List Call) → run step l fresh .wire .connection ≡ Selecting → Quiet (run step l fresh)
+selecting-quiet l y = at-work (ap isSelecting y) (lived l .shape) .0
+
+-- one more call of a selection that goes on
+module _ (l : List Call) (c : Call) (y : run step l fresh .wire .connection ≡ Selecting) (a : isAnswer c ≡ false)
+    (e : run step (l ++ (c ∷ [])) fresh .wire .connection ≡ Selecting) where
+  works : busy (run step l fresh) ≡ true
+  unfolding busy either
+  works = rw (at-work (ap isSelecting y) (lived l .shape) .1)
+
+  one-more-ticks : Ticks (units c) (run step l fresh) (run step (l ++ (c ∷ [])) fresh)
+  one-more-ticks =
+      let r : run step (l ++ (c ∷ [])) fresh ≡ step c (run step l fresh) .state = run-more step l c fresh in
+      let x : step c (run step l fresh) .state .wire .connection ≡ Selecting = sym (ap (λ (t : State). t .wire .connection) r) ∙ e in
+      subst (λ (t : State). Ticks (units c) (run step l fresh) t) (sym r) (elapsed-grows c (run step l fresh) y (selecting-quiet l y) works a x)
 
 pub data HasWaited (l : List Call) : Type 0 where
   waits-for : (n : ℕ) → Waited step n l → run step l fresh .wire .elapsed ≤ n → HasWaited l
@@ -243,19 +286,26 @@ pub data HasWaited (l : List Call) : Type 0 where
 one-more : (l : List Call) (c : Call) → (run step l fresh .wire .connection ≡ Selecting → HasWaited l)
     → run step (l ++ (c ∷ [])) fresh .wire .connection ≡ Selecting → HasWaited (l ++ (c ∷ []))
 one-more l c h e =
-    let s : State = run step l fresh in
-    let r : run step (l ++ (c ∷ [])) fresh ≡ step c s .state = run-more step l c fresh in
-    let x : step c s .state .wire .connection ≡ Selecting = sym (ap (λ (t : State). t .wire .connection) r) ∙ e in
-    let k : run step (l ++ (c ∷ [])) fresh .wire .elapsed ≡ step c s .state .wire .elapsed = ap (λ (t : State). t .wire .elapsed) r in
-    ⊎-elim (λ b. waits-for 0 (begun l c b) (omega (arith, k, begins-at-zero c s b)))
-    (λ y. goes-on (h (y .0)) (y .0) (y .1) (elapsed-grows c s (y .0) (at-rest (ap isSelecting (y .0)) (lived l .shape)) (y .1) x) k)
+    ⊎-elim
+    (λ b. waits-for 0 (begun l c b)
+    (omega (arith, ap (λ (t : State). t .wire .elapsed) (run-more step l c fresh), begins-at-zero c (run step l fresh) b)))
+    (λ y. goes-on (h (y .0)) (y .0) (y .1) (one-more-ticks l c (y .0) (y .1) e))
     (since-end l c (selections-begun .begun (l ++ (c ∷ [])) e))
   where
     goes-on : HasWaited l → run step l fresh .wire .connection ≡ Selecting → isAnswer c ≡ false
-        → step c (run step l fresh) .state .wire .elapsed ≤ run step l fresh .wire .elapsed + units c
-        → run step (l ++ (c ∷ [])) fresh .wire .elapsed ≡ step c (run step l fresh) .state .wire .elapsed → HasWaited (l ++ (c ∷ []))
-    goes-on (waits-for n w m) y a g k = waits-for (n + units c) (passed l c w y a) (omega (arith, k))
+        → Ticks (units c) (run step l fresh) (run step (l ++ (c ∷ [])) fresh) → HasWaited (l ++ (c ∷ []))
+    goes-on (waits-for n w m) y a g = waits-for (n + units c) (passed l c w y a) (omega (arith, g .most))
 
 pub has-waited : (l : List Call) → run step l fresh .wire .connection ≡ Selecting → HasWaited l
 unfolding run
-has-waited l = by-calls (λ (m : List Call). run step m fresh .wire .connection ≡ Selecting → HasWaited m) (λ e. clash (ap isSelecting e) refl) one-more l
+has-waited l =
+    by-calls (λ (m : List Call). run step m fresh .wire .connection ≡ Selecting → HasWaited m) (λ e. clash (ap isSelecting e) refl) one-more l
+
+-- all of these units have added up, where register 02 is not 0
+pub all-added : {n : ℕ} {l : List Call} → Waited step n l → run step l fresh .wire .connection ≡ Selecting
+    → eqb (run step l fresh .registers .timeout) 0 ≡ false → n ≤ run step l fresh .wire .elapsed
+all-added (begun l c b) e z = omega arith
+all-added (passed l c w y a) e z =
+    let g = one-more-ticks l c y a e in
+    let z' : eqb (run step l fresh .registers .timeout) 0 ≡ false = rw (g .timeout) at z in
+    omega (arith, all-added w y z', g .least z')

@@ -1,6 +1,6 @@
 -- What a driver may believe of 42h, "selection timed out", over every list of calls from a fresh controller.
---   TimedOutIsTrue f   wherever 42h stands unread, nobody is connected, and since that selection began no Answer was taken; it is raised only when
---                      the time in register 02 is over
+--   TimedOutIsTrue f   wherever 42h stands unread, nobody is connected, and since that selection began no Answer was taken; it is raised when
+--                      the time in register 02 is over, and only then
 --   TurnedAway f c s   the call c, made in s, is no Answer, or it is refused
 --   Waited f n l       a selection began in l, has gone on since with no Answer, and n units of time have passed
 --   RanOut f l c       after the calls l, the call c uses up the timeout of the selection that runs
@@ -54,3 +54,6 @@ pub record TimedOutIsTrue (f : Call → State → Outcome) : Type 0 where
   pub nobody : (l : List Call) → interrupted (run f l fresh) ≡ true → run f l fresh .status .code ≡ 0x42
       → Since f (Selects f) (TurnedAway f) l
   pub ran-out : (l : List Call) (c : Call) → Raises f l c 0x42 → RanOut f l c
+  -- .. and then it is raised
+  pub comes : (l : List Call) (n w : ℕ) → isGood (time n) ≡ true → Waited f w l → run f l fresh .wire .connection ≡ Selecting
+      → eqb (run f l fresh .registers .timeout) 0 ≡ false → run f l fresh .registers .timeout ≤ w + n → Raises f l (time n) 0x42

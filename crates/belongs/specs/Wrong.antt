@@ -9,6 +9,7 @@
 --   misleads   the pointer set to 17h goes to 16h
 --   unblinds   17h is read while a command runs: after 42h was read, and the next Target has answered, it gives 42h again
 --   impatient  a Select goes on counting where the last selection stopped
+--   dawdles    a Time that is short of the timeout adds nothing: passed unit by unit, no selection ever times out
 --   poaches    a Select is taken over a running command while connected: the Target is dropped, and 42h comes for one that had answered
 --   nods       an Answer while Disconnected is Done, and nothing happens: the board takes its disk for connected
 --   barges     a Reselection while connected is Done, and rewrites 16h: one disk takes the place of another
@@ -124,3 +125,11 @@ nods = instead (λ c s. both (eqb (kind c) 5) (isDisconnected (s .wire .connecti
 unfoldable pub barges : Call → State → Outcome
 unfolding instead
 barges = instead (λ c s. both (eqb (kind c) 6) (isConnected (s .wire .connection))) (setSource 0x8B)
+
+unfoldable pub dawdles : Call → State → Outcome
+dawdles c s =
+    record {
+      answer = step c s .answer;
+      state = pick (eqb (kind c) 4) (setElapsed (s .wire .elapsed) (step c s .state)) (step c s .state);
+      lent = step c s .lent;
+    }

@@ -2,6 +2,7 @@
 --   ending-is-still   the law of the bus events
 --   pending-stays     only a Reset, a Disconnect while connected or the read of its last byte ends an ending
 --   Stays host-stays  every call of the host but these and accesses to the Data register leaves FIFO, command, way and connection
+--   unreachable       while a command runs 18h and 19h alone are reachable
 --   Refuses refuses refuses-bad   nothing changed, and the answer is a refusal
 --   Stands stands-still   where every event comes to that, but for Time, the bus stands still
 use mathlib.Core.Path.{_≡_, refl, ap, _∙_}
@@ -198,6 +199,14 @@ each-level-one P k e x0 x1 x2 x3 x4 xF =
     one-or P 0x00 k _ e x0
     (λ f. one-or P 0x01 k _ f x1 (λ g. one-or P 0x02 k _ g x2 (λ h. one-or P 0x03 k _ h x3 (λ i. one-of P 0x04 0x0F k i x4 xF))))
 
+-- while a command runs 18h and 19h alone are reachable
+pub unreachable : {P : Type 0} (s : State) (w : Bool) (a : ℕ) → busy s ≡ true → R.isBlind w a s ≡ false → eqb a 0x18 ≡ false → eqb a 0x19 ≡ false
+    → P
+unfolding R.isBlind both either
+unreachable s w a r h m n =
+    let f : both (busy s) (not (either (eqb a 0x18) (eqb a 0x19))) ≡ false = either-rest (both w (eqb a 0x17)) _ (either-rest (leb 0x1A a) _ h) in
+    clash refl (rw (r, m, n) at f)
+
 -- the FIFO, the running command with its way, and the connection stay
 pub record Stays (s t : State) : Type 0 where
   pub bytes : t .fifo ≡ s .fifo
@@ -242,13 +251,6 @@ module _ (s : State) (e : ends s ≡ true) where
       (λ v. by-test (eqb (codeOf b) 0x04) (λ f. clash v (d f)) (λ f. carried-stays b (codeOf b) _ (unrefused (codeOf b) r) n f v))
       (λ v. clash is-busy (invalid-idle (codeOf b) s r v)))))
 
-  -- 18h and 19h alone are reachable
-  unreachable : {P : Type 0} (w : Bool) (a : ℕ) → R.isBlind w a s ≡ false → eqb a 0x18 ≡ false → eqb a 0x19 ≡ false → P
-  unfolding R.isBlind both either
-  unreachable w a h m n =
-      let f : both (busy s) (not (either (eqb a 0x18) (eqb a 0x19))) ≡ false = either-rest (both w (eqb a 0x17)) _ (either-rest (leb 0x1A a) _ h) in
-      clash refl (rw (is-busy, m, n) at f)
-
   read-stays : (a : ℕ) → eqb a 0x19 ≡ false → Leaves (R.readAt a s)
   unfolding R.readAt
   read-stays a n =
@@ -263,7 +265,7 @@ module _ (s : State) (e : ends s ≡ true) where
         by-case Leaves _
         (λ a. commanded-stays b (rw (g, w, a) at r)
         (λ f. by-test (isValid (codeOf b) s) (λ v. clash (is-disconnect m b s g w a f v) d) (λ v. v)))
-        (λ a. unreachable (isSet m) (s .status .pointer) h a n)
+        (λ a. unreachable s (isSet m) (s .status .pointer) is-busy h a n)
 
     access-stays : eqb (s .status .pointer) 0x19 ≡ false → Leaves (R.accessed (isSet m) b s)
     unfolding R.accessed R.stepped R.accessedAt
