@@ -195,26 +195,27 @@ poaches-selects h =
     ⊎-elim (λ e. clash (ap isConnected e) refl) (λ g. clash (ap isDisconnected (selects-apart g)) refl)
     (h .sound (pointer 1 0x18 ∷ register 1 0x09 ∷ answer ∷ []) (register 1 0x06))
 
--- the table has no row for them: the step itself refuses them
+-- Out of place, where the step refuses, is not Done
+no-row : _≡_ {A = ℕ} 2 0 → ⊥
+no-row z = omega arith
+
+-- the table has no row for these two: the step itself refuses them
 pub nods-taken : ConnectionGoes nods → ⊥
 unfolding everything run nods instead
 nods-taken h =
     clash (h .elsewhere (callsTimedOut ++ (pointer 1 0x17 ∷ register 0 0 ∷ [])) answer refl (λ x g. no-row (ap number (row-taken refl g))) .not-taken)
     refl
-  where
-    no-row : _≡_ {A = ℕ} 2 0 → ⊥
-    no-row z = omega arith
 
+-- the host's identity is 7, and reselection is enabled; a Select, the Target answers, and the host reads 11h
+abbrev callsEnabled : List Call
+callsEnabled =
+    pointer 1 0x00 ∷ register 1 0x07 ∷ pointer 1 0x18 ∷ register 1 0x00 ∷ pointer 1 0x17 ∷ register 0 0 ∷ pointer 1 0x16
+    ∷ register 1 0x80 ∷ (callsSelected ++ (pointer 1 0x17 ∷ register 0 0 ∷ []))
+
+-- the disk with identity 3 reselects the host
 pub barges-taken : ConnectionGoes barges → ⊥
 unfolding everything run barges instead
-barges-taken h =
-    clash
-    (h .elsewhere (callsSelected ++ (pointer 1 0x17 ∷ register 0 0 ∷ [])) (reselection 0x88) refl
-    (λ x g. no-row (ap number (row-taken refl g))) .not-taken)
-    refl
-  where
-    no-row : _≡_ {A = ℕ} 6 0 → ⊥
-    no-row z = omega arith
+barges-taken h = clash (h .elsewhere callsEnabled (reselection 0x88) refl (λ x g. no-row (ap number (row-taken refl g))) .not-taken) refl
 
 -- a timeout of 2, a Select
 abbrev callsCalling : List Call

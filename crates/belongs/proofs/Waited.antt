@@ -70,6 +70,10 @@ block-clock (b ∷ l) s q =
     going (λ (m : R.Moved). clock (m .state) ≡ clock s) (R.dataRead s .answer) _ _
     (λ v. let h = pops-clock q (pops s) in block-clock l (R.dataRead s .state) (h .1) ∙ h .0) refl
 
+-- a selection that is over does not run
+gone : {P : Type 0} {y : Connection} → y ≡ Selecting → isSelecting y ≡ false → P
+gone e n = clash (ap isSelecting e) n
+
 -- while a selection goes on, both stay
 module _ (s : State) (x : s .wire .connection ≡ Selecting) (q : Quiet s) (r : busy s ≡ true) where
   abbrev Stays : State → Type 0
@@ -80,9 +84,6 @@ module _ (s : State) (x : s .wire .connection ≡ Selecting) (q : Quiet s) (r : 
 
   abbrev Leads : Outcome → Type 0
   Leads o = Stays (o .state)
-
-  gone : {P : Type 0} {y : Connection} → y ≡ Selecting → isSelecting y ≡ false → P
-  gone e n = clash (ap isSelecting e) n
 
   commanded-stays : (b : ℕ) → So (commanded b s)
   unfolding commanded carriedOut aborted accepted reset raise outgoingDropped
@@ -157,7 +158,7 @@ passed-grows n s x q =
     (λ f. subst (λ (y : Connection). Grows n s (E.passedBy y n s)) (sym x)
     (by-case (Grows n s) _ (λ i. clash i (ap isInterrupt q))
     (λ i. by-case (Grows n s) _ (λ z e. record { timeout = refl; most = omega arith; least = λ m. clash z m })
-    (λ z. by-pick (Grows n s) _ (λ e. clash (ap isSelecting e) refl)
+    (λ z. by-pick (Grows n s) _ (λ e. gone e refl)
     (λ e. record { timeout = refl; most = omega arith; least = λ m. omega arith })))))
 
 time-grows : (n : ℕ) (s : State) → s .wire .connection ≡ Selecting → Quiet s → step (time n) s .state .wire .connection ≡ Selecting
@@ -191,10 +192,7 @@ module _ (s : State) (x : s .wire .connection ≡ Disconnected) where
   Zero t = t .wire .connection ≡ Selecting → t .wire .elapsed ≡ 0
 
   not-so : {P : Type 0} → s .wire .connection ≡ Selecting → P
-  not-so e = clash (ap isSelecting e) (ap isSelecting x)
-
-  none : {P : Type 0} {y : Connection} → y ≡ Selecting → isSelecting y ≡ false → P
-  none e n = clash (ap isSelecting e) n
+  not-so e = gone e (ap isSelecting x)
 
   transferring-zero : (r : Running) (b : ℕ) → Zero (transferring r (accepted b s))
   unfolding transferring selecting accepted
@@ -203,10 +201,10 @@ module _ (s : State) (x : s .wire .connection ≡ Disconnected) where
   carried-zero : (b k : ℕ) (single : Bool) → Zero (carriedOut k single (accepted b s))
   unfolding carriedOut aborted disconnected selecting informing loadedInfo accepted raise outgoingDropped
   carried-zero b k single =
-      by-pick Zero _ (by-case Zero _ (λ y. clash y (ap isConnected x)) (λ y e. none e refl))
+      by-pick Zero _ (by-case Zero _ (λ y. clash y (ap isConnected x)) (λ y e. gone e refl))
       (by-pick Zero _ not-so
       (by-pick Zero _ not-so
-      (by-pick Zero _ (λ e. none e refl)
+      (by-pick Zero _ (λ e. gone e refl)
       (by-pick Zero _ (λ e. refl)
       (by-pick Zero _ (λ e. refl)
       (by-pick Zero _ (transferring-zero _ b) (by-pick Zero _ (transferring-zero _ b) (by-pick Zero _ not-so not-so))))))))
@@ -214,7 +212,7 @@ module _ (s : State) (x : s .wire .connection ≡ Disconnected) where
   commanded-zero : (b : ℕ) → Zero (commanded b s .state)
   unfolding commanded accepted reset
   commanded-zero b =
-      by-pick (λ (r : Reply). Zero (r .state)) _ (λ e. none e refl)
+      by-pick (λ (r : Reply). Zero (r .state)) _ (λ e. gone e refl)
       (by-pick (λ (r : Reply). Zero (r .state)) _ not-so
       (by-pick (λ (r : Reply). Zero (r .state)) _ not-so
       (by-pick (λ (r : Reply). Zero (r .state)) _ (carried-zero b (codeOf b) _) not-so)))

@@ -49,10 +49,13 @@ pub record RanOut (f : Call → State → Outcome) (l : List Call) (c : Call) : 
   pub over : run f l fresh .registers .timeout ≤ waited + units c
 
 pub record TimedOutIsTrue (f : Call → State → Outcome) : Type 0 where
+  -- while it is unread nobody is connected ..
   pub apart : (l : List Call) → interrupted (run f l fresh) ≡ true → run f l fresh .status .code ≡ 0x42
       → run f l fresh .wire .connection ≡ Disconnected
+  -- .. and no Answer was taken since that selection began
   pub nobody : (l : List Call) → interrupted (run f l fresh) ≡ true → run f l fresh .status .code ≡ 0x42
       → Since f (Selects f) (TurnedAway f) l
+  -- it is raised only when the time is over ..
   pub ran-out : (l : List Call) (c : Call) → Raises f l c 0x42 → RanOut f l c
   -- .. and then it is raised
   pub comes : (l : List Call) (n w : ℕ) → isGood (time n) ≡ true → Waited f w l → run f l fresh .wire .connection ≡ Selecting

@@ -29,6 +29,7 @@ use Rattle.chip.specs.declared.Answer.the-variants.{Done}
 use Rattle.chip.specs.declared.Connection.the-variants.{Disconnected, Connected}
 use Rattle.chip.specs.declared.Running.the-variants.{SelectWithAtn}
 use Rattle.reached.specs.Facts.{isSelect}
+use Rattle.reached.specs.Wrong.{afterwards}
 use Rattle.unread.specs.Status.{isSelection, readsAt}
 use Rattle.unread.specs.Wrong.{instead}
 
@@ -59,12 +60,7 @@ unfolding instead
 eager = instead (λ c s. both (isSelection c s) (interrupted s)) (selecting SelectWithAtn)
 
 unfoldable pub hangsUp : Call → State → Outcome
-hangsUp c s =
-    record {
-      answer = step c s .answer;
-      state = pick (both (readsAt 0x17 c s) (interrupted s)) (setConnection Disconnected (step c s .state)) (step c s .state);
-      lent = step c s .lent;
-    }
+hangsUp = afterwards 2 (λ s t. pick (both (interrupted s) (not (interrupted t))) (setConnection Disconnected t) t)
 
 unfoldable pub hides : Call → State → Outcome
 unfolding instead
@@ -75,12 +71,7 @@ abbrev astray : State → State
 astray s = pick (eqb (s .status .pointer) 0x17) (setPointer 0x16 s) s
 
 unfoldable pub misleads : Call → State → Outcome
-misleads c s =
-    record {
-      answer = step c s .answer;
-      state = pick (eqb (kind c) 0) (astray (step c s .state)) (step c s .state);
-      lent = step c s .lent;
-    }
+misleads = afterwards 0 (λ s t. astray t)
 
 -- the units of an earlier selection are added to those of the next
 unfoldable pub impatient : Call → State → Outcome
@@ -127,9 +118,4 @@ unfolding instead
 barges = instead (λ c s. both (eqb (kind c) 6) (isConnected (s .wire .connection))) (setSource 0x8B)
 
 unfoldable pub dawdles : Call → State → Outcome
-dawdles c s =
-    record {
-      answer = step c s .answer;
-      state = pick (eqb (kind c) 4) (setElapsed (s .wire .elapsed) (step c s .state)) (step c s .state);
-      lent = step c s .lent;
-    }
+dawdles = afterwards 4 (λ s t. setElapsed (s .wire .elapsed) t)
