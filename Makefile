@@ -1,5 +1,5 @@
 # The two commands of README.md are `make demo` and `make test`; both do all their set-up themselves.
-.PHONY: demo test outside lib native install bench speed clean
+.PHONY: demo test outside targets write-targets lib native install bench speed clean
 
 CC ?= gcc
 CFLAGS = -O2 -std=c11 -Wall -Wextra -Werror -Iinclude
@@ -17,8 +17,9 @@ PREFIX ?= /usr/local
 VERSION = 0.1
 INTO = $(DESTDIR)$(PREFIX)
 
-# How many calls each differential run makes, and its seed.
+# How many calls each differential run makes, and its seed; a run on another target is emulated, so it makes fewer.
 CALLS ?= 10000000
+TARGET_CALLS ?= 1000000
 SEED ?= 1
 
 # A host and a disk around the library, the bus story line by line.
@@ -26,13 +27,11 @@ demo: build/board
 	@build/board
 	@echo "With a host that works as Linux's driver does: build/board --driver linux"
 
-# The static libraries: for this machine's processor, for x86-64 as rt itself builds it, and for a 64-bit Arm.
-lib: $(NATIVE)
+# The static libraries: one for each target of tools/targets, and the one for x86-64 that rt itself builds.
+lib: $(patsubst tools/targets/%,build/%/libam33c93a.a,$(wildcard tools/targets/*))
 	@rt staticlib controller > /dev/null
 	@mkdir -p build/x86-64
 	@cp target/staticlib/libcontroller.a build/x86-64/libam33c93a.a
-	@tools/native-lib aarch64-unknown-linux-gnu
-	@echo $(NATIVE)
 	@echo build/x86-64/libam33c93a.a
 
 native: $(NATIVE)
@@ -48,8 +47,12 @@ install: $(NATIVE)
 		install -D -m 644 $$a "$(INTO)/lib/am33c93a/$$(basename $$(dirname $$a))/libam33c93a.a" || exit 1; done
 	@echo "$(INTO)"
 
-$(NATIVE): tools/native-lib $(CODE)
-	@tools/native-lib
+# The proved module, a minute; then seconds for each target.
+build/module.ll: tools/module $(CODE)
+	@tools/module
+
+build/%/libam33c93a.a: build/module.ll tools/native-lib tools/targets/% include/am33c93a.h
+	@tools/native-lib $*
 
 # Everything that is checked: the layout, all proofs and must-fail edits from nothing, then what runs outside the prover.
 # What rt ci printed comes last, so that its closing line 'N passed, 0 failed' is the last one.
@@ -58,6 +61,7 @@ test:
 	@rt fmt --check
 	@rt ci > build/ci.log 2>&1 || { cat build/ci.log; exit 1; }
 	@$(MAKE) --no-print-directory outside
+	@$(MAKE) --no-print-directory targets
 	@cat build/ci.log
 
 # Tests of the compiled library: its boundary and the refusals there, the paper's sessions, two independent models, one in C
@@ -75,6 +79,13 @@ outside: build/boundary build/refusals build/sessions build/plain_sessions build
 	@cd rust && $(LENT) $(CARGO) test -q --target-dir $(CARGO_OUT) > $(CURDIR)/build/wrapper.log 2>&1 || { cat $(CURDIR)/build/wrapper.log; exit 1; }
 	@awk '/^test result/ { passed += $$4; failed += $$6 } END { print "wrapper for Rust: " passed " passed, " failed " failed" }' build/wrapper.log
 	@tests/install
+
+# The library on every processor that it is built for (docs/BOARD.md, "On which processors"). `make write-targets` puts what was seen there.
+targets:
+	@CALLS=$(TARGET_CALLS) SEED=$(SEED) tests/targets
+
+write-targets: targets
+	@tools/put-figures build/targets.md docs/BOARD.md
 
 build/board: examples/board.c include/am33c93a.h $(NATIVE)
 	@$(CC) $(CFLAGS) -o $@ $< $(NATIVE)
@@ -103,7 +114,7 @@ build/plain_sessions: tests/plain_sessions.c bench/plain.c bench/plain.h include
 build/differential: tests/differential.c bench/plain.c bench/plain.h include/am33c93a.h $(NATIVE)
 	@$(CC) $(CHECKED) -o $@ $< bench/plain.c $(NATIVE)
 
-build/against_model: $(wildcard tests/model/src/*.rs tests/model/Cargo.* tests/against_model/src/*.rs) \
+build/against_model: $(wildcard tests/model/src/*.rs tests/model/Cargo.* tests/against_model/src/*.rs) rust/src/entries.rs \
 		$(wildcard tests/against_model/Cargo.* tests/against_model/*.rs tests/against_model/*.txt) $(NATIVE)
 	@cd tests/against_model && $(LENT) $(CARGO) build -q --release --target-dir $(CARGO_OUT)
 	@cp $(CARGO_OUT)/release/against_model $@

@@ -7,11 +7,14 @@
  *
  * What the caller owes: a slice is a pointer and a length, and the bytes it names can be read and written; the two slices of
  * am33c93a_block do not overlap; no other thread uses the same image during a call. A slice of length 0 may be null.
+ *
+ * A length has 64 bits on every target, also where size_t has 32: the library is one and the same proved module everywhere, and
+ * takes it so. In C hand over a size_t or sizeof as it is, the prototype converts it. Whoever declares the entries elsewhere (in
+ * another language, as pointers to functions) has to say 64 bits too, or on a 32-bit target the library sees other operands.
  */
 #ifndef AM33C93A_H
 #define AM33C93A_H
 
-#include <stddef.h>
 #include <stdint.h>
 
 #ifdef __cplusplus
@@ -21,27 +24,27 @@ extern "C" {
 /* The length of an image in bytes: always AM33C93A_IMAGE_LENGTH. */
 uint32_t am33c93a_image_length(void);
 /* Writes the image of a fresh controller: all registers zero, Disconnected, nothing pending. */
-uint32_t am33c93a_fresh(uint8_t *image, size_t length);
+uint32_t am33c93a_fresh(uint8_t *image, uint64_t length);
 /* Reads (mark 0) or sets (mark 1) the address pointer. */
-uint32_t am33c93a_pointer(uint8_t *image, size_t length, uint32_t mark, uint32_t byte);
+uint32_t am33c93a_pointer(uint8_t *image, uint64_t length, uint32_t mark, uint32_t byte);
 /* Reads auxiliary status; changes nothing. */
-uint32_t am33c93a_auxiliary(uint8_t *image, size_t length);
+uint32_t am33c93a_auxiliary(uint8_t *image, uint64_t length);
 /* Reads (mark 0) or writes (mark 1) the register at the pointer, and steps the pointer. */
-uint32_t am33c93a_register(uint8_t *image, size_t length, uint32_t mark, uint32_t byte);
+uint32_t am33c93a_register(uint8_t *image, uint64_t length, uint32_t mark, uint32_t byte);
 /* Single accesses at the Data register from the start of data, until it ends or no data moves; the value is the number moved. */
-uint32_t am33c93a_block(uint8_t *image, size_t length, uint32_t mark, uint8_t *data, size_t data_length);
+uint32_t am33c93a_block(uint8_t *image, uint64_t length, uint32_t mark, uint8_t *data, uint64_t data_length);
 /* units of 8 ms pass, 0 to 255. */
-uint32_t am33c93a_time(uint8_t *image, size_t length, uint32_t units);
+uint32_t am33c93a_time(uint8_t *image, uint64_t length, uint32_t units);
 /* The Target answers our selection. */
-uint32_t am33c93a_answer(uint8_t *image, size_t length);
+uint32_t am33c93a_answer(uint8_t *image, uint64_t length);
 /* A Target reselects us: the eight data lines. */
-uint32_t am33c93a_reselection(uint8_t *image, size_t length, uint32_t lines);
+uint32_t am33c93a_reselection(uint8_t *image, uint64_t length, uint32_t lines);
 /* The Target asserts REQ in a phase, with a byte (looked at in the phases that come in) and its parity: 0 good, 1 bad. */
-uint32_t am33c93a_request(uint8_t *image, size_t length, uint32_t phase, uint32_t byte, uint32_t parity);
+uint32_t am33c93a_request(uint8_t *image, uint64_t length, uint32_t phase, uint32_t byte, uint32_t parity);
 /* The Target frees the bus. */
-uint32_t am33c93a_free(uint8_t *image, size_t length);
+uint32_t am33c93a_free(uint8_t *image, uint64_t length);
 /* What the controller drives on the bus (AM33C93A_LINES_ below); changes nothing. */
-uint32_t am33c93a_lines(const uint8_t *image, size_t length);
+uint32_t am33c93a_lines(const uint8_t *image, uint64_t length);
 
 #define AM33C93A_IMAGE_LENGTH 53
 

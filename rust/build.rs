@@ -1,10 +1,14 @@
-//! Links libam33c93a.a from AM33C93A_LIB_DIR, else from where `make native` puts it.
+//! Links libam33c93a.a from AM33C93A_LIB_DIR, else from where tools/native-lib puts that of cargo's target.
 use std::env;
+use std::path::Path;
 
 fn main() {
-    let arch = env::var("CARGO_CFG_TARGET_ARCH").unwrap();
+    let target = env::var("TARGET").unwrap();
     let root = env::var("CARGO_MANIFEST_DIR").unwrap();
-    let dir = env::var("AM33C93A_LIB_DIR").unwrap_or(format!("{root}/../build/{arch}-unknown-linux-gnu"));
+    let dir = env::var("AM33C93A_LIB_DIR").unwrap_or(format!("{root}/../build/{target}"));
+    if !Path::new(&dir).join("libam33c93a.a").exists() {
+        println!("cargo:warning=no libam33c93a.a in {dir}: tools/native-lib {target} builds it, or AM33C93A_LIB_DIR names another folder");
+    }
     println!("cargo:rustc-link-search=native={dir}");
     println!("cargo:rustc-link-lib=static=am33c93a");
     println!("cargo:rerun-if-changed={dir}/libam33c93a.a");

@@ -18,7 +18,7 @@ static void check(int holds, const char *what, long a, long b)
 }
 
 /* One call by its number, with up to three operands. */
-static uint32_t call(int entry, uint8_t *image, size_t length, uint32_t a, uint32_t b, uint32_t c, uint8_t *data, size_t n)
+static uint32_t call(int entry, uint8_t *image, uint64_t length, uint32_t a, uint32_t b, uint32_t c, uint8_t *data, uint64_t n)
 {
     switch (entry) {
     case 0: return am33c93a_pointer(image, length, a, b);
@@ -65,6 +65,20 @@ static void taken(int entry, const uint8_t *image, uint32_t a, uint32_t b, uint3
     check(memcmp(&before, &after, sizeof before) == 0, "a guard byte changed", entry, 0);
 }
 
+/* Lengths that are 53 or 0 in their low 32 bits only: the library has to be told, and to look at, all 64. The bytes are not there, but
+ * a length that is not 53 is refused before any byte is looked at. */
+static void all_bits_count(int entry, const uint8_t *fresh)
+{
+    static const uint64_t lengths[] = {LENGTH | 1ull << 32, LENGTH | 1ull << 63, 1ull << 32, UINT64_MAX};
+    for (int i = 0; i < 4; i++) {
+        uint8_t image[LENGTH];
+        memcpy(image, fresh, LENGTH);
+        uint32_t r = call(entry, image, lengths[i], 0, 0, 0, image, 0);
+        check(r == AM33C93A_BAD_NUMBER, "a length beyond 32 bits was taken", entry, i);
+        check(memcmp(image, fresh, LENGTH) == 0, "an image of a length beyond 32 bits changed", entry, i);
+    }
+}
+
 static const struct { uint8_t at, limit; } ranges[] = {
     {26, 2}, {27, 2}, {28, 4}, {30, 4}, {31, 6}, {32, 3}, {33, 2}, {34, 2}, {35, 2}, {36, 9}, {37, 9}, {38, 8}, {40, 13}};
 
@@ -79,6 +93,7 @@ int main(void)
         for (size_t n = 0; n <= LENGTH + 8; n++)
             if (n != LENGTH) refused(e, fresh, n, 0, 0, 0, "an image of another length was taken");
         check(call(e, NULL, 0, 0, 0, 0, NULL, 0) == AM33C93A_BAD_NUMBER, "a null image was taken", e, 0);
+        all_bits_count(e, fresh);
         taken(e, fresh, 0, 0, 0);
         if (e == ENTRIES - 1) continue; /* am33c93a_fresh reads no image */
         for (size_t i = 0; i < sizeof ranges / sizeof ranges[0]; i++)

@@ -10,6 +10,9 @@ use core::fmt;
 /// The length of an image in bytes (docs/IMAGE.md).
 pub const IMAGE_LENGTH: usize = 53;
 
+/// The same as the library takes it: a length has 64 bits on every target.
+const LENT_LENGTH: u64 = IMAGE_LENGTH as u64;
+
 const READ: u32 = 0;
 const WRITE: u32 = 1;
 
@@ -62,7 +65,7 @@ impl Controller {
     /// All registers zero, Disconnected, nothing pending.
     pub fn fresh() -> Controller {
         let mut image = [0; IMAGE_LENGTH];
-        unsafe { am33c93a_fresh(image.as_mut_ptr(), IMAGE_LENGTH) };
+        unsafe { am33c93a_fresh(image.as_mut_ptr(), LENT_LENGTH) };
         Controller { image }
     }
 
@@ -82,12 +85,12 @@ impl Controller {
     }
 
     /// Lends the image to one entry.
-    fn call(&mut self, entry: impl FnOnce(*mut u8, usize) -> u32) -> Answer {
-        Answer::from_returned(entry(self.image.as_mut_ptr(), IMAGE_LENGTH))
+    fn call(&mut self, entry: impl FnOnce(*mut u8, u64) -> u32) -> Answer {
+        Answer::from_returned(entry(self.image.as_mut_ptr(), LENT_LENGTH))
     }
 
     /// Lends a copy to an entry that changes nothing, for those that take an image as if to change it.
-    fn look(&self, entry: impl FnOnce(*mut u8, usize) -> u32) -> Answer {
+    fn look(&self, entry: impl FnOnce(*mut u8, u64) -> u32) -> Answer {
         self.clone().call(entry)
     }
 
@@ -116,7 +119,7 @@ impl Controller {
 
     /// Reads at the Data register until the slice ends or no data comes; the value is the number read. The rest of the slice stays.
     pub fn read_block(&mut self, data: &mut [u8]) -> Answer {
-        self.call(|image, length| unsafe { am33c93a_block(image, length, READ, data.as_mut_ptr(), data.len()) })
+        self.call(|image, length| unsafe { am33c93a_block(image, length, READ, data.as_mut_ptr(), data.len() as u64) })
     }
 
     /// Writes at the Data register until the slice ends or no more is taken; the value is the number written.
@@ -127,10 +130,11 @@ impl Controller {
         for part in data.chunks(16) {
             let mut copy = [0; 16];
             copy[..part.len()].copy_from_slice(part);
-            let moved = match self.call(|image, n| unsafe { am33c93a_block(image, n, WRITE, copy.as_mut_ptr(), part.len()) }) {
-                Answer::Done(moved) => moved,
-                other => return other,
-            };
+            let moved =
+                match self.call(|image, n| unsafe { am33c93a_block(image, n, WRITE, copy.as_mut_ptr(), part.len() as u64) }) {
+                    Answer::Done(moved) => moved,
+                    other => return other,
+                };
             written += moved;
             if moved as usize != part.len() {
                 break;
@@ -166,6 +170,6 @@ impl Controller {
 
     /// What the controller drives on the bus ([`crate::line`]).
     pub fn lines(&self) -> Answer {
-        Answer::from_returned(unsafe { am33c93a_lines(self.image.as_ptr(), IMAGE_LENGTH) })
+        Answer::from_returned(unsafe { am33c93a_lines(self.image.as_ptr(), LENT_LENGTH) })
     }
 }

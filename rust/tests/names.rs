@@ -1,7 +1,9 @@
-//! Every name of the C header's lists stands in src/names.rs with the same number, and no other.
+//! Every name of the C header's lists stands in src/names.rs with the same number, and no other; every entry stands in src/entries.rs
+//! with the same operands. A length that has not the same width on both sides would be read wrongly on a target of 32 bits.
 
 const HEADER: &str = include_str!("../../include/am33c93a.h");
 const NAMES: &str = include_str!("../src/names.rs");
+const ENTRIES: &str = include_str!("../src/entries.rs");
 
 fn between(text: &'static str, start: &str, end: &str) -> &'static str {
     let rest = text.split_once(start).unwrap_or_else(|| panic!("no {start:?}")).1;
@@ -39,4 +41,33 @@ fn the_header_and_the_wrapper_say_the_same() {
         assert_eq!(header, here, "{module}");
         assert_eq!(header.len(), length, "{module}");
     }
+}
+
+/// An operand of C in Rust's words.
+fn operand(c: &str) -> String {
+    let (kind, name) = c.rsplit_once([' ', '*']).unwrap_or_else(|| panic!("{c:?}"));
+    let kind = match (kind.trim(), c.contains('*')) {
+        ("uint8_t", true) => "*mut u8",
+        ("const uint8_t", true) => "*const u8",
+        ("uint64_t", false) => "u64",
+        ("uint32_t", false) => "u32",
+        _ => panic!("{c:?}"),
+    };
+    format!("{name}: {kind}")
+}
+
+/// A prototype of the header as Rust declares it; none for am33c93a_image_length, which the wrapper has as a constant.
+fn declared(line: &str) -> Option<String> {
+    let (name, operands) = line.strip_prefix("uint32_t ")?.strip_suffix(");")?.split_once('(')?;
+    let operands: Vec<String> = operands.split(", ").filter(|c| *c != "void").map(operand).collect();
+    (!operands.is_empty()).then(|| format!("fn {name}({}) -> u32;", operands.join(", ")))
+}
+
+#[test]
+fn the_header_and_the_wrapper_declare_the_same_entries() {
+    let header: Vec<String> = HEADER.lines().filter_map(declared).collect();
+    let here: Vec<&str> = ENTRIES.lines().filter_map(|line| line.trim().strip_prefix("pub(crate) ")).collect();
+    assert_eq!(header, here);
+    assert_eq!(header.len(), 11);
+    assert!(HEADER.contains("#define AM33C93A_IMAGE_LENGTH 53\n") && am33c93a::IMAGE_LENGTH == 53);
 }

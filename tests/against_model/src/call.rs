@@ -78,7 +78,7 @@ impl Call {
 
     pub fn to_library(self, image: &mut Image, slice: &mut Slice) -> u32 {
         use crate::library::*;
-        let (at, length) = (image.as_mut_ptr(), image.len());
+        let (at, length) = (image.as_mut_ptr(), image.len() as u64);
         // Both slices are ours alone and as long as said.
         unsafe {
             match self {

@@ -10,6 +10,8 @@ mod call;
 mod cases;
 mod guide;
 mod images;
+// The declarations that rust/ uses: one list for both.
+#[path = "../../../rust/src/entries.rs"]
 mod library;
 mod mistakes;
 mod noise;
