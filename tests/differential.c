@@ -29,7 +29,9 @@ struct call {
     uint32_t a, b, c;
 };
 
+/* The image stands at an odd address, where the smallest processors can reach single bytes only. */
 struct pair {
+    uint8_t before_image;
     uint8_t image[AM33C93A_IMAGE_LENGTH];
     struct plain model;
 };
@@ -103,17 +105,19 @@ static bool leaves(const uint8_t *before, const uint8_t *after, uint32_t answer,
 /* Runs one call on both sides. The results go to r; false if the returned numbers, the lent bytes or what is left differ. */
 static bool step(struct pair *p, const struct call *c, uint32_t r[2], struct difference *d)
 {
-    uint8_t before[AM33C93A_IMAGE_LENGTH], lent[2][SLICE];
+    uint8_t before[AM33C93A_IMAGE_LENGTH], plain_lent[SLICE];
+    _Alignas(4) uint8_t room[1 + SLICE];
+    uint8_t *lent = room + 1; /* at an odd address too */
     memcpy(before, p->image, sizeof before);
     if (c->kind == BLOCK)
-        for (unsigned i = 0; i < SLICE; i++) lent[0][i] = lent[1][i] = (uint8_t)(c->fill + 7 * i);
+        for (unsigned i = 0; i < SLICE; i++) lent[i] = plain_lent[i] = (uint8_t)(c->fill + 7 * i);
     bool null = c->length == 0 && (c->fill & 1);
-    r[0] = library_call(p->image, c, null ? NULL : lent[0]);
-    r[1] = plain_call(&p->model, c, null ? NULL : lent[1]);
+    r[0] = library_call(p->image, c, null ? NULL : lent);
+    r[1] = plain_call(&p->model, c, null ? NULL : plain_lent);
     if (r[0] != r[1]) return differs(d, "the returned number", NOWHERE, true, r[0], r[1]);
-    if (c->kind == BLOCK && memcmp(lent[0], lent[1], SLICE) != 0)
+    if (c->kind == BLOCK && memcmp(lent, plain_lent, SLICE) != 0)
         for (unsigned i = 0; i < SLICE; i++)
-            if (lent[0][i] != lent[1][i]) return differs(d, "lent byte", i, false, lent[0][i], lent[1][i]);
+            if (lent[i] != plain_lent[i]) return differs(d, "lent byte", i, false, lent[i], plain_lent[i]);
     return leaves(before, p->image, AM33C93A_ANSWER(r[0]), d);
 }
 
