@@ -165,7 +165,7 @@ static void disk_turn(void)
     uint32_t r = am33c93a_request(chip, sizeof chip, x.phase, x.byte, 0);
     int answer = (int)AM33C93A_ANSWER(r);
     if (answer == AM33C93A_DONE) {
-        printf("  bus   %-11s %02Xh crosses\n", phases[x.phase], AM33C93A_VALUE(r));
+        printf("  bus   %-11s %02Xh crosses\n", phases[x.phase], (unsigned)AM33C93A_VALUE(r));
         told++;
     } else if (answer != last_answer || x.phase != last_phase) {
         printf("  bus   %-11s asked for: %s\n", phases[x.phase], answers[answer]);
@@ -188,10 +188,10 @@ static int host_turn(uint8_t *code)
     }
     if ((aux & AM33C93A_AUX_DBR) && have < WANTED) {
         uint8_t block[12];
-        uint32_t r = am33c93a_block(chip, sizeof chip, 0, block, sizeof block);
-        memcpy(got + have, block, AM33C93A_VALUE(r));
-        have += (int)AM33C93A_VALUE(r);
-        if (AM33C93A_VALUE(r)) printf("  host  reads %u data byte%s\n", AM33C93A_VALUE(r), AM33C93A_VALUE(r) == 1 ? "" : "s");
+        int moved = (int)AM33C93A_VALUE(am33c93a_block(chip, sizeof chip, 0, block, sizeof block));
+        memcpy(got + have, block, (size_t)moved);
+        have += moved;
+        if (moved) printf("  host  reads %d data byte%s\n", moved, moved == 1 ? "" : "s");
     }
     return 0;
 }
@@ -252,7 +252,7 @@ static uint8_t by_single_phases(void)
         }
         uint8_t phase = code & 7;
         uint32_t count = phase == AM33C93A_COMMAND_OUT ? CDB : phase == AM33C93A_DATA_IN ? WANTED : 1;
-        printf("  host  Transfer Info, %s, count %u\n", phases[phase], count);
+        printf("  host  Transfer Info, %s, count %u\n", phases[phase], (unsigned)count);
         put_count(count);
         put(AM33C93A_COMMAND, AM33C93A_TRANSFER_INFO);
         uint8_t identify = 0x80, byte;
