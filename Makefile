@@ -29,7 +29,7 @@ demo: build/board
 
 # The static libraries: one for each target of tools/targets, and the one for x86-64 that rt itself builds.
 lib: $(patsubst tools/targets/%,build/%/libam33c93a.a,$(wildcard tools/targets/*))
-	@rt staticlib controller > /dev/null
+	@rt staticlib controller > build/staticlib.log 2>&1 || { cat build/staticlib.log; exit 1; }
 	@mkdir -p build/x86-64
 	@cp target/staticlib/libcontroller.a build/x86-64/libam33c93a.a
 	@echo build/x86-64/libam33c93a.a
