@@ -114,8 +114,8 @@ build/plain_sessions: tests/plain_sessions.c bench/plain.c bench/plain.h include
 build/differential: tests/differential.c bench/plain.c bench/plain.h include/am33c93a.h $(NATIVE)
 	@$(CC) $(CHECKED) -o $@ $< bench/plain.c $(NATIVE)
 
-build/against_model: $(wildcard tests/model/src/*.rs tests/model/Cargo.* tests/against_model/src/*.rs) rust/src/entries.rs \
-		$(wildcard tests/against_model/Cargo.* tests/against_model/*.rs tests/against_model/*.txt) $(NATIVE)
+build/against_model: $(wildcard tests/model/src/*.rs tests/model/Cargo.* tests/against_model/src/*.rs) rust/src/entries.rs rust/build.rs \
+		$(wildcard tests/against_model/Cargo.* tests/against_model/*.txt) $(NATIVE)
 	@cd tests/against_model && $(LENT) $(CARGO) build -q --release --target-dir $(CARGO_OUT)
 	@cp $(CARGO_OUT)/release/against_model $@
 

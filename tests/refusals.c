@@ -59,14 +59,14 @@ static void taken(int entry, const uint8_t *image, uint32_t a, uint32_t b, uint3
     memcpy(before.image + GUARD, image, LENGTH);
     after = before;
     uint32_t r = call(entry, after.image + GUARD, LENGTH, a, b, c, after.data + GUARD, SLICE);
-    check(AM33C93A_ANSWER(r) != AM33C93A_BAD_NUMBER, "refused", entry, (long)r);
+    check(AM33C93A_ANSWER(r) != AM33C93A_BAD_NUMBER, "a good call was refused", entry, (long)r);
     memcpy(after.image + GUARD, before.image + GUARD, LENGTH);
     memcpy(after.data + GUARD, before.data + GUARD, SLICE);
     check(memcmp(&before, &after, sizeof before) == 0, "a guard byte changed", entry, 0);
 }
 
-/* Lengths that are 53 or 0 in their low 32 bits only: the library has to be told, and to look at, all 64. The bytes are not there, but
- * a length that is not 53 is refused before any byte is looked at. */
+/* Lengths beyond 32 bits, two of them 53 in their low half: the library has to be told, and to look at, all 64 bits. So many bytes are not
+ * there, but a length that is not 53 is refused before any byte is looked at. */
 static void all_bits_count(int entry, const uint8_t *fresh)
 {
     static const uint64_t lengths[] = {LENGTH | 1ull << 32, LENGTH | 1ull << 63, 1ull << 32, UINT64_MAX};
