@@ -1,5 +1,5 @@
 # The two commands of README.md are `make demo` and `make test`; both do all their set-up themselves.
-.PHONY: demo test outside targets write-targets lib native install bench speed clean
+.PHONY: demo test outside targets write-targets proofs lib native install bench speed clean
 
 CC ?= gcc
 CFLAGS = -O2 -std=c11 -Wall -Wextra -Werror -Iinclude
@@ -86,6 +86,10 @@ targets:
 
 write-targets: targets
 	@tools/put-figures build/targets.md docs/BOARD.md
+
+# The generated proofs of a room, made again by the commands in their heads, and those that it lacks: `make proofs ROOM=bus`.
+proofs:
+	@tools/write-proofs $(ROOM)
 
 build/board: examples/board.c include/am33c93a.h $(NATIVE)
 	@$(CC) $(CFLAGS) -o $@ $< $(NATIVE)

@@ -68,7 +68,7 @@ enum {
 enum {
     AM33C93A_AUX_INT = 0x80, /* an interrupt is pending: read AM33C93A_SCSI_STATUS */
     AM33C93A_AUX_LCI = 0x40, /* the last command was ignored */
-    AM33C93A_AUX_BSY = 0x20, /* a Level II command runs */
+    AM33C93A_AUX_BSY = 0x20, /* a Level II command runs, or its ending is under way */
     AM33C93A_AUX_CIP = 0x10, /* command in progress: always 0 here */
     AM33C93A_AUX_PE = 0x02,  /* bad parity came in */
     AM33C93A_AUX_DBR = 0x01  /* the Data register wants to be read or written */
@@ -129,7 +129,7 @@ enum {
     AM33C93A_CODE_TRANSFERRED_PHASE = 0x18, /* Transfer Info is over, and this phase is asked for next */
     AM33C93A_CODE_MESSAGE_IN = 0x20,        /* the last Message In byte came; ACK is held */
     AM33C93A_CODE_SAVE_POINTER = 0x21,      /* Save Data Pointer came in a Select-And-Transfer; ACK is held */
-    AM33C93A_CODE_ABORTED = 0x22,           /* aborted before a connection */
+    AM33C93A_CODE_ABORTED = 0x22,           /* aborted while selecting, or waiting for reselection */
     AM33C93A_CODE_ABORTED_PHASE = 0x28,     /* aborted in this phase */
     AM33C93A_CODE_INVALID = 0x40,           /* the command is invalid now */
     AM33C93A_CODE_GONE = 0x41,              /* the Target left in the middle */

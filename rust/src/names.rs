@@ -6,7 +6,7 @@ pub mod auxiliary {
     pub const INT: u8 = 0x80;
     /// The last command was ignored.
     pub const LCI: u8 = 0x40;
-    /// A Level II command runs.
+    /// A Level II command runs, or its ending is under way.
     pub const BSY: u8 = 0x20;
     /// Command in progress: always 0 here.
     pub const CIP: u8 = 0x10;
@@ -90,7 +90,7 @@ pub mod code {
     pub const MESSAGE_IN: u8 = 0x20;
     /// Save Data Pointer came in a Select-And-Transfer; ACK is held.
     pub const SAVE_POINTER: u8 = 0x21;
-    /// Aborted before a connection.
+    /// Aborted while selecting, or waiting for reselection.
     pub const ABORTED: u8 = 0x22;
     /// Aborted in this phase.
     pub const ABORTED_PHASE: u8 = 0x28;

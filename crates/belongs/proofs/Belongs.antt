@@ -9,9 +9,9 @@ use mathlib.Core.Logic.{_⊎_, inl, inr, ⊎-elim}
 use Prim.Native.Nat.{ℕ}
 use Rattle.chip.specs.Choice.{pick, both, either}
 use Rattle.chip.specs.State.{fresh, setPointer}
-use Rattle.chip.specs.Interrupts.{interrupted, isInterrupt, ends, isEnding, busy}
+use Rattle.chip.specs.Interrupts.{interrupted, isInterrupt, inEnding, isEnding, busy}
 use Rattle.chip.specs.Registers as R
-use Rattle.chip.specs.Calls.{Call, Outcome, pointer, auxiliary, register, isByte, isGood, carried, step}
+use Rattle.chip.specs.Calls.{Call, Outcome, pointer, auxiliary, register, isByte, isGood, carried, step, run}
 use Rattle.chip.specs.declared.State.{State}
 use Rattle.chip.specs.declared.Wire.{Wire}
 use Rattle.chip.specs.declared.Answer.the-variants.{Done, Blind}
@@ -21,7 +21,6 @@ use Rattle.chip.proofs.Cases.{by-test, either-last}
 use Rattle.reached.specs.Sound.{Sound}
 use Rattle.reached.proofs.Facts.{facts}
 use Rattle.unread.specs.Status.{isReset, isDisconnect, readsAt, raised}
-use Rattle.unread.specs.History.{run}
 use Rattle.unread.specs.Because.{Because}
 use Rattle.unread.specs.Codes as C
 use Rattle.unread.specs.Codes.{Since}
@@ -35,7 +34,8 @@ use Rattle.unread.proofs.Ending.{ending-is-still}
 use Rattle.unread.proofs.Placed.{ending-placed}
 use Rattle.belongs.specs.StillBus.{isPending}
 use Rattle.belongs.specs.Belongs.{flags, Causes, at-once, to-come, Owes, unread, coming, Undisturbed, StatusBelongs}
-use Rattle.belongs.proofs.StillBus.{calm, unread-still, lived}
+use Rattle.belongs.proofs.StillBus.{calm, unread-still}
+use Rattle.reached.proofs.Laws.{reached}
 use Rattle.belongs.proofs.Unmoved.{unmoved}
 
 module _ (k : ℕ) (c : Call) (s : State) where
@@ -73,7 +73,7 @@ module _ (k : ℕ) (c : Call) (s : State) where
   -- the code stands unread after the call
   raised-on : Sound s → interrupted (step c s .state) ≡ true → step c s .state .status .code ≡ k → Passed
   raised-on x j e =
-      by-test (isReset c s) (λ r. inl (at-once (because (raised-reset c s _ j r)) (rw r (either-last (not (ends s))))))
+      by-test (isReset c s) (λ r. inl (at-once (because (raised-reset c s _ j r)) (rw r (either-last (not (inEnding s))))))
       (λ r. by-test (interrupted s) (λ i. inr (kept r i))
       (λ i. let h : Because c s k = because (raised-anew c s _ j i) in found-on h r i j (because-found h)))
     where
@@ -111,7 +111,7 @@ nothing-owed k (coming p) = clash (ap isEnding p) refl
 
 one-more : (l : List Call) (c : Call) → Belongs l → Belongs (l ++ (c ∷ []))
 one-more l c h k o =
-    ⊎-elim (C.now l c) (λ u. C.still l c (h k (u .owed)) u) (passed-on k c (run step l fresh) (lived l) (rw (run-more step l c fresh) at o))
+    ⊎-elim (C.now l c) (λ u. C.still l c (h k (u .owed)) u) (passed-on k c (run step l fresh) (reached l) (rw (run-more step l c fresh) at o))
 
 -- 17h is not Blind: with INT set no command runs
 read-gives : (s : State) (o : Outcome) → busy s ≡ false → ReadTold s o → o .answer ≡ Done (s .status .code)
@@ -151,14 +151,14 @@ status-belongs =
       shown = λ l. shows (run step l fresh);
       heard = λ l i.
           ap (λ (t : State). step (register 0 0) t .answer) (pointed (run step l fresh) 0x17 refl)
-          ∙ hears (run step l fresh) (facts (lived l) .int-not-busy i);
+          ∙ hears (run step l fresh) (facts (reached l) .int-not-busy i);
       pointed = λ l. pointed (run step l fresh);
       hushed = λ l c b r. read-hushed (run step l fresh) _ b (status-read c (run step l fresh) r);
       given = λ l c i r.
           let s : State = run step l fresh in
-          let n : busy s ≡ false = facts (lived l) .int-not-busy i in
+          let n : busy s ≡ false = facts (reached l) .int-not-busy i in
           let t : ReadTold s (step c s) = status-read c s r in
-          let u = unmoved s (lived l) i c (no-reset 0 c s (read-clears s (step c s) n t)) in
+          let u = unmoved s (reached l) i c (no-reset 0 c s (read-clears s (step c s) n t)) in
           record {
             code = read-gives s (step c s) n t;
             bus = u .wire;

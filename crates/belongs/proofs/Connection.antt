@@ -12,37 +12,38 @@ use borrow.Author.Tests.{not-true}
 use Rattle.chip.specs.Choice.{both, either}
 use Rattle.chip.specs.Phases.{phaseOf}
 use Rattle.chip.specs.Lines.{codeOf, qualifies}
-use Rattle.chip.specs.Count.{loaded, loadedInfo}
+use Rattle.chip.specs.Count.{loaded, loadedForTransferInfo}
 use Rattle.chip.specs.Fifo.{waits}
 use Rattle.chip.specs.State.{fresh}
-use Rattle.chip.specs.Interrupts.{interrupted, ends, busy, isIncoming, raise, unlessInterrupt, outgoingDropped, unread}
+use Rattle.chip.specs.Interrupts.{interrupted, inEnding, busy, isIncoming, raise, unlessInterrupt, outgoingDropped, bytesUnread}
 use Rattle.chip.specs.SelectAndTransfer as X
-use Rattle.chip.specs.Commands.{isConnected, isDisconnected, isValid, isRefusedBusy, entryOf, table, reset, aborted, disconnected, selecting, transferring, informing, carriedOut, accepted, commanded}
+use Rattle.chip.specs.Commands.{isValid, isRefusedBusy, entryOf, table, reset, aborted, disconnected, selecting, selectAndTransferBegun, transferInfoBegun, carriedOut, accepted, commanded}
+use Rattle.chip.specs.Connections.{isConnected, isDisconnected}
 use Rattle.chip.specs.Registers as R
 use Rattle.chip.specs.Events as E
-use Rattle.chip.specs.Calls.{Call, Outcome, pointer, auxiliary, register, block, time, answer, reselection, request, free, isGood, isSet, carried, step}
+use Rattle.chip.specs.Calls.{Call, Outcome, pointer, auxiliary, register, block, time, answer, reselection, request, free, isGood, isSet, carried, step, run}
 use Rattle.chip.specs.declared.State.{State}
 use Rattle.chip.specs.declared.Wire.{Wire}
 use Rattle.chip.specs.declared.Reply.{Reply}
 use Rattle.chip.specs.declared.Connection.{Connection}
-use Rattle.chip.specs.declared.Connection.the-variants.{Disconnected, Selecting, Waiting, Connected}
+use Rattle.chip.specs.declared.Connection.the-variants.{Disconnected, Selecting, Connected}
 use Rattle.chip.specs.declared.Running.{Running}
 use Rattle.chip.proofs.Cases.{by-pick, by-case, by-test, both-first, both-second, either-second}
 use Rattle.reached.specs.Sound.{Sound}
 use Rattle.unread.specs.Status.{isCommand, isReset, isSelectCode}
-use Rattle.unread.specs.History.{run}
 use Rattle.unread.specs.Because.{Quiet, ReadsLast, byte, slice}
 use Rattle.unread.proofs.Choosing.{one-of}
-use Rattle.unread.proofs.Telling.{Standing, quiet-of, is-disconnected}
+use Rattle.unread.proofs.Telling.{Summary, quiet-of}
 use Rattle.unread.proofs.Host.{select-idle, transfer-selects, not-busy-runs, not-busy-ends, abort-ends, abort-runs, is-command, own-code, is-disconnect, is-read, Drains, drains-nothing, drains-wait, drains-ending, then, pops, block-drains, written-keeps, block-keeps, stored-keeps}
 use Rattle.unread.proofs.Placed.{place}
 use Rattle.belongs.specs.Connection as C
 use Rattle.belongs.specs.Connection.{letsGo, Goes, ConnectionGoes}
-use Rattle.belongs.proofs.StillBus.{lived}
+use Rattle.reached.proofs.Laws.{reached}
 use Rattle.belongs.proofs.Unmoved.{unmoved}
 use Rattle.belongs.proofs.Goes.{to, ended-stays, reset-parts, free-parts, free-waits, goes-there}
 use Rattle.belongs.proofs.Requests.{request-rests}
 use Rattle.belongs.proofs.Taken.{row-taken, elsewhere}
+use Rattle.chip.proofs.Numbers.{is-disconnected, is-selecting, is-connected}
 
 -- the table is sound: a call that moves the connection is among its rows, and leaves what the row says
 
@@ -51,7 +52,7 @@ Sorted c s x = (x ≡ place s) ⊎ Goes c s x
 
 -- the Data register
 module _ (s : State) where
-  drained-goes : {c : Call} {n : ℕ} {z : Standing}
+  drained-goes : {c : Call} {n : ℕ} {z : Summary}
       → (isIncoming (s .transfer .direction) ≡ true → 0 < waits (s .fifo) → waits (s .fifo) ≤ n → ReadsLast c s) → Drains n s z
       → Sorted c s (z .connection)
   drained-goes h drains-nothing = inl refl
@@ -105,15 +106,15 @@ module _ (s : State) (i : interrupted s ≡ false) where
         x)
 
     transferring-goes : (r : Running) → either (eqb (codeOf b) 0x08) (eqb (codeOf b) 0x09) ≡ true → isRefusedBusy (codeOf b) s ≡ false
-        → isValid (codeOf b) s ≡ true → Leads (transferring r (accepted b s))
-    unfolding transferring X.resumed accepted selecting X.fromDisconnected loaded
+        → isValid (codeOf b) s ≡ true → Leads (selectAndTransferBegun r (accepted b s))
+    unfolding selectAndTransferBegun X.resumed accepted selecting X.fromDisconnected loaded
     transferring-goes r w f v =
         by-case Leads _ (λ x. by-pick Leads _ (inl (ended-stays _ _)) (inl refl))
         (λ x. inr (selects-goes f (transfer-selects (codeOf b) w) v (or-joined w v x)))
 
     carried-goes : (single : Bool) → isRefusedBusy (codeOf b) s ≡ false → isValid (codeOf b) s ≡ true
         → Leads (carriedOut (codeOf b) single (accepted b s))
-    unfolding carriedOut accepted disconnected selecting informing loadedInfo isSelectCode either
+    unfolding carriedOut accepted disconnected selecting transferInfoBegun loadedForTransferInfo isSelectCode either
     carried-goes single r v =
         by-case Leads _ (λ e. aborted-goes e v)
         (λ n1. by-pick Leads _ (inl refl)
@@ -159,72 +160,59 @@ module _ (s : State) (i : interrupted s ≡ false) where
   -- the bus events
   time-goes : (n : ℕ) → isGood (time n) ≡ true → Sorted (time n) s (to (E.passed n s))
   unfolding E.passed E.selectionTime E.timedOut raise outgoingDropped
-  time-goes n good = by-case So _ (λ e. inl refl) (λ e. by-connection e (place s) refl)
+  time-goes n good =
+      by-case So _ (λ e. inl refl)
+      (λ e. by-case So _
+      (λ x. by-pick So _ (inl refl)
+      (by-case So _ (λ t. inl refl)
+      (λ t. by-case So _ (λ u. inr (C.times-out good (quiet-of _ i e) (is-selecting _ x) t u)) (λ u. inl refl))))
+      (λ x. inl refl))
     where
       So : Reply → Type 0
       So r = Sorted (time n) s (to r)
 
-      by-connection : ends s ≡ false → (x : Connection) → place s ≡ x → So (E.passedBy x n s)
-      by-connection e Disconnected f = inl refl
-      by-connection e Selecting f =
-          by-pick So _ (inl refl)
-          (by-case So _ (λ t. inl refl) (λ t. by-case So _ (λ u. inr (C.times-out good (quiet-of _ i e) f t u)) (λ u. inl refl)))
-      by-connection e Waiting f = inl refl
-      by-connection e Connected f = inl refl
-
   answer-goes : Sorted answer s (to (E.answered s))
   unfolding E.answered E.answeredSelecting E.answeredState E.connected raise outgoingDropped unlessInterrupt
-  answer-goes = by-connection (place s) refl
+  answer-goes =
+      by-case So _
+      (λ x. by-case So _ (λ e. inl refl)
+      (λ e. let h : Goes answer s Connected = C.answers (quiet-of _ i e) (is-selecting _ x) in
+      by-pick So _ (inr h) (by-pick So _ (inl refl) (inr h))))
+      (λ x. inl refl)
     where
       So : Reply → Type 0
       So r = Sorted answer s (to r)
 
-      by-connection : (x : Connection) → place s ≡ x → So (E.answeredBy x s)
-      by-connection Disconnected f = inl refl
-      by-connection Selecting f =
-          by-case So _ (λ e. inl refl)
-          (λ e. let h : Goes answer s Connected = C.answers (quiet-of _ i e) f in by-pick So _ (inr h) (by-pick So _ (inl refl) (inr h)))
-      by-connection Waiting f = inl refl
-      by-connection Connected f = inl refl
-
   reselection-goes : (lines : ℕ) → isGood (reselection lines) ≡ true → Sorted (reselection lines) s (to (E.reselected lines s))
-  unfolding E.reselected E.reselectedLoud E.reselectedWaiting E.reselectedState E.connected raise outgoingDropped unlessInterrupt
-  reselection-goes lines good = by-case So _ (λ q. by-connection q (place s) refl) (λ q. inl refl)
+  unfolding E.reselected E.reselectedWithCode E.reselectedApart E.reselectedState E.connected raise outgoingDropped unlessInterrupt
+  reselection-goes lines good =
+      by-case So _
+      (λ q. by-case So _ (λ x. inl refl)
+      (λ x. by-case So _ (λ e. inl refl)
+      (λ e. by-pick So _ (inr (joins q e x)) (by-pick So _ (inl refl) (inr (joins q e x))))))
+      (λ q. inl refl)
     where
       So : Reply → Type 0
       So r = Sorted (reselection lines) s (to r)
 
-      joins : qualifies lines s ≡ true → ends s ≡ false → isConnected (place s) ≡ false → Goes (reselection lines) s Connected
+      joins : qualifies lines s ≡ true → inEnding s ≡ false → isConnected (place s) ≡ false → Goes (reselection lines) s Connected
       joins q e x = C.reselects good (quiet-of _ i e) q x
-
-      by-connection : qualifies lines s ≡ true → (x : Connection) → place s ≡ x → So (E.reselectedBy x lines s)
-      by-connection q Disconnected f = by-case So _ (λ e. inl refl) (λ e. by-pick So _ (inl refl) (inr (joins q e (rw f))))
-      by-connection q Selecting f = by-case So _ (λ e. inl refl) (λ e. by-pick So _ (inl refl) (inr (joins q e (rw f))))
-      by-connection q Waiting f =
-          by-case So _ (λ e. inl refl)
-          (λ e. by-pick So _ (inr (joins q e (rw f))) (by-pick So _ (inl refl) (inr (joins q e (rw f)))))
-      by-connection q Connected f = inl refl
 
   free-goes : Sorted free s (to (E.freed s))
   unfolding E.freed
-  free-goes = by-connection (place s) refl
+  free-goes =
+      by-case So _ (λ x. by-case So _ (λ e. inl refl) (λ e. leaves (quiet-of _ i e) (is-connected _ x))) (λ x. inl refl)
     where
       So : Reply → Type 0
       So r = Sorted free s (to r)
 
-      leaves : Quiet s → place s ≡ Connected → So (E.freedFrom (s .transfer .running) s)
+      leaves : Quiet s → place s ≡ Connected → So (E.freedRunning s)
       leaves q x =
-          by-test (both (letsGo s) (not (unread s)))
+          by-test (both (letsGo s) (not (bytesUnread s)))
           (λ e. let f : letsGo s ≡ true = both-first _ _ e in
-          let u : unread s ≡ false = not-true _ (both-second (letsGo s) _ e) in
+          let u : bytesUnread s ≡ false = not-true _ (both-second (letsGo s) _ e) in
           rw (free-waits s q x f u) (inr (C.lets-go q x f u)))
           (λ e. rw (free-parts s q x e) (inr (C.frees q x e)))
-
-      by-connection : (x : Connection) → place s ≡ x → So (E.freedBy x s)
-      by-connection Disconnected f = inl refl
-      by-connection Selecting f = inl refl
-      by-connection Waiting f = inl refl
-      by-connection Connected f = by-case So _ (λ e. inl refl) (λ e. leaves (quiet-of _ i e) f)
 
   walk : (c : Call) → Sorted c s (place (step c s .state))
   unfolding step carried R.pointerSet R.pointerRead R.auxiliaryRead
@@ -250,7 +238,7 @@ goes s x c =
 pub connection-goes : ConnectionGoes step
 connection-goes =
     record {
-      sound = λ l c. goes (run step l fresh) (lived l) c;
+      sound = λ l c. goes (run step l fresh) (reached l) c;
       complete = λ l c x h. goes-there h;
       taken = λ l c x v h. row-taken v h;
       elsewhere = elsewhere;

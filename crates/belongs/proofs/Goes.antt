@@ -10,23 +10,24 @@ use lib.Dec.{eqb, leb}
 use borrow.Author.Tests.{not-true}
 use Rattle.chip.specs.Choice.{pick, both}
 use Rattle.chip.specs.Lines.{idi, qualifies}
-use Rattle.chip.specs.Interrupts.{interrupted, isInterrupt, isEnding, isRunning, raise, endingWith, unlessInterrupt, outgoingDropped, unread}
+use Rattle.chip.specs.Interrupts.{interrupted, isInterrupt, isEnding, raise, endingWith, unlessInterrupt, outgoingDropped, bytesUnread}
+use Rattle.chip.specs.Running.{isRunning, isSelectAndTransfer}
+use Rattle.chip.specs.TransferInfo as I
 use Rattle.chip.specs.SelectAndTransfer as X
-use Rattle.chip.specs.Commands.{isConnected, isValid, aborted, selecting, transferring, carriedOut, accepted}
+use Rattle.chip.specs.Commands.{isValid, aborted, selecting, selectAndTransferBegun, carriedOut, accepted}
+use Rattle.chip.specs.Connections.{isConnected, isSelecting}
 use Rattle.chip.specs.Registers as R
 use Rattle.chip.specs.Events as E
-use Rattle.chip.specs.Events.{isTransfer}
 use Rattle.chip.specs.Calls.{Call, Outcome, time, answer, reselection, free, isGood, plain, carried, step}
 use Rattle.chip.specs.declared.State.{State}
 use Rattle.chip.specs.declared.Reply.{Reply}
 use Rattle.chip.specs.declared.Connection.{Connection}
 use Rattle.chip.specs.declared.Connection.the-variants.{Disconnected, Selecting, Waiting, Connected}
 use Rattle.chip.specs.declared.Running.{Running}
-use Rattle.chip.specs.declared.Running.the-variants.{Idle, SelectWithAtn, SelectWithoutAtn, TransferWithAtn, TransferWithoutAtn, TransferInfo}
-use Rattle.chip.proofs.Cases.{by-pick, by-case, both-first, both-second}
+use Rattle.chip.proofs.Cases.{by-pick, by-case, both-first, both-second, taken, passed-over}
 use Rattle.unread.specs.Status.{isCommand, isReset, isSelectCode, isDisconnect}
 use Rattle.unread.specs.Because.{Quiet, byte}
-use Rattle.unread.proofs.Choosing.{clash, taken, passed-over}
+use Rattle.unread.proofs.Choosing.{clash}
 use Rattle.unread.proofs.Host.{each-select}
 use Rattle.unread.proofs.Told.{good-step, Issued, issued}
 use Rattle.unread.proofs.Rows.{taken-command, abort-taken, kept-free}
@@ -61,8 +62,8 @@ module _ (c : Call) (s : State) (q : Quiet s) where
       rw (h .leaves, abort-taken c s q runs (h .byte) (h .code)) (ap place (passed-over _ _ x))
 
   module _ (idle : isRunning (s .transfer .running) ≡ false) (x : place s ≡ Disconnected) where
-    transferring-selects : (r : Running) (b : ℕ) → place (transferring r (accepted b s)) ≡ Selecting
-    unfolding transferring selecting accepted
+    transferring-selects : (r : Running) (b : ℕ) → place (selectAndTransferBegun r (accepted b s)) ≡ Selecting
+    unfolding selectAndTransferBegun selecting accepted
     transferring-selects r b = ap place (passed-over _ _ (ap isConnected x))
 
     carried-selects : (k b : ℕ) (single : Bool) → isSelectCode k ≡ true → place (carriedOut k single (accepted b s)) ≡ Selecting
@@ -84,13 +85,13 @@ comes : (c : Call) (s : State) (r : Reply) {x : Connection} → isGood c ≡ tru
 comes c s r g e h = ap (λ (o : Outcome). place (o .state)) (good-step c s g ∙ e) ∙ h
 
 module _ (s : State) (q : Quiet s) where
-  time-parts : (n : ℕ) → isGood (time n) ≡ true → place s ≡ Selecting → eqb (s .registers .timeout) 0 ≡ false
-      → leb (s .registers .timeout) (s .wire .elapsed + n) ≡ true → place (step (time n) s .state) ≡ Disconnected
+  time-parts : (n : ℕ) → isGood (time n) ≡ true → place s ≡ Selecting → eqb (s .registers .setup .timeout) 0 ≡ false
+      → leb (s .registers .setup .timeout) (s .wire .elapsed + n) ≡ true → place (step (time n) s .state) ≡ Disconnected
   unfolding carried E.passed E.selectionTime E.timedOut raise outgoingDropped
   time-parts n g x t l =
       comes (time n) s (E.passed n s) g refl
       (ap to
-      (passed-over _ _ (ap isEnding q) ∙ ap (λ (c : Connection). E.passedBy c n s) x ∙ passed-over _ _ (ap isInterrupt q) ∙ passed-over _ _ t
+      (passed-over _ _ (ap isEnding q) ∙ taken _ _ (ap isSelecting x) ∙ passed-over _ _ (ap isInterrupt q) ∙ passed-over _ _ t
       ∙ taken _ _ l))
 
   open-to : (r : Reply) → unlessInterrupt s r ≡ r
@@ -101,7 +102,7 @@ module _ (s : State) (q : Quiet s) where
   unfolding carried E.answered E.answeredSelecting E.answeredState E.connected raise outgoingDropped isGood
   answer-joins x =
       comes answer s (E.answered s) refl refl
-      (ap to (ap (λ (c : Connection). E.answeredBy c s) x ∙ passed-over _ _ (ap isEnding q))
+      (ap to (taken _ _ (ap isSelecting x) ∙ passed-over _ _ (ap isEnding q))
       ∙ by-pick Joins _ refl (ap to (open-to _)))
     where
       Joins : Reply → Type 0
@@ -109,59 +110,44 @@ module _ (s : State) (q : Quiet s) where
 
   reselection-joins : (lines : ℕ) → isGood (reselection lines) ≡ true → qualifies lines s ≡ true → isConnected (place s) ≡ false
       → place (step (reselection lines) s .state) ≡ Connected
-  unfolding carried E.reselected E.reselectedLoud E.reselectedWaiting E.reselectedState E.connected raise outgoingDropped
+  unfolding carried E.reselected E.reselectedWithCode E.reselectedApart E.reselectedState E.connected raise outgoingDropped
   reselection-joins lines g f x =
-      comes (reselection lines) s (E.reselected lines s) g refl (ap to (taken _ _ f) ∙ by-connection (place s) x)
+      comes (reselection lines) s (E.reselected lines s) g refl
+      (ap to (taken _ _ f ∙ passed-over _ _ x ∙ passed-over _ _ (ap isEnding q)) ∙ by-pick Joins _ refl (ap to (open-to _)))
     where
       Joins : Reply → Type 0
       Joins r = to r ≡ Connected
 
-      loud : Joins (E.reselectedLoud lines s)
-      loud = ap to (open-to _)
-
-      by-connection : (c : Connection) → isConnected c ≡ false → Joins (E.reselectedBy c lines s)
-      by-connection Disconnected x = ap to (passed-over _ _ (ap isEnding q)) ∙ loud
-      by-connection Selecting x = ap to (passed-over _ _ (ap isEnding q)) ∙ loud
-      by-connection Waiting x = ap to (passed-over _ _ (ap isEnding q)) ∙ by-pick Joins _ refl loud
-      by-connection Connected x = clash refl x
-
   module _ (x : place s ≡ Connected) where
-    free-comes : {y : Connection} → to (E.freedFrom (s .transfer .running) s) ≡ y → place (step free s .state) ≡ y
+    free-comes : {y : Connection} → to (E.freedRunning s) ≡ y → place (step free s .state) ≡ y
     unfolding carried E.freed isGood
     free-comes h =
-        comes free s (E.freed s) refl refl (ap to (ap (λ (c : Connection). E.freedBy c s) x ∙ passed-over _ _ (ap isEnding q)) ∙ h)
+        comes free s (E.freed s) refl refl (ap to (taken _ _ (ap isConnected x) ∙ passed-over _ _ (ap isEnding q)) ∙ h)
 
     abbrev Parts : Reply → Type 0
     Parts r = to r ≡ Disconnected
 
-    transfer-parts : both (both (eqb (s .registers .phase) 0x42) (not (idi s))) (not (unread s)) ≡ false → Parts (X.transferFree s (E.busFree s))
-    unfolding X.transferFree X.freeAfterDisconnect X.freeToWait E.busFree both
+    transfer-parts : both (both (eqb (s .registers .descriptor .phase) 0x42) (not (idi s))) (not (bytesUnread s)) ≡ false → Parts (X.selectAndTransferFree s (E.busFree s))
+    unfolding X.selectAndTransferFree X.freeAfterDisconnect X.freeToWait E.busFree both
     transfer-parts e =
         by-case Parts _
         (λ p. by-case Parts _ (λ d. ap to (open-to _) ∙ ended-stays _ _)
         (λ d. by-case Parts _ (λ u. ap to (open-to _)) (λ u. clash refl (rw (p, d, u) at e))))
         (λ p. ap to (open-to _) ∙ ended-stays _ _)
 
-    pub free-parts : both (letsGo s) (not (unread s)) ≡ false → Parts (E.freedFrom (s .transfer .running) s)
-    unfolding letsGo E.idleFree E.busFree raise outgoingDropped both
-    free-parts e = by-running (s .transfer .running) e
-      where
-        by-running : (r : Running) → both (both (isTransfer r) (both (eqb (s .registers .phase) 0x42) (not (idi s)))) (not (unread s)) ≡ false
-            → Parts (E.freedFrom r s)
-        by-running Idle e = ap to (open-to _)
-        by-running SelectWithAtn e = ap to (open-to _)
-        by-running SelectWithoutAtn e = ap to (open-to _)
-        by-running TransferWithAtn e = transfer-parts e
-        by-running TransferWithoutAtn e = transfer-parts e
-        by-running TransferInfo e = ap to (open-to _) ∙ ended-stays _ _
+    pub free-parts : both (letsGo s) (not (bytesUnread s)) ≡ false → Parts (E.freedRunning s)
+    unfolding E.freedRunning I.transferInfoFree letsGo E.idleFree E.busFree raise outgoingDropped both
+    free-parts e =
+        by-case Parts _ (λ t. transfer-parts (rw t at e))
+        (λ t. by-pick Parts _ (ap to (open-to _) ∙ ended-stays _ _) (ap to (open-to _)))
 
-    pub free-waits : letsGo s ≡ true → unread s ≡ false → to (E.freedFrom (s .transfer .running) s) ≡ Waiting
-    unfolding letsGo X.transferFree X.freeAfterDisconnect X.freeToWait
+    pub free-waits : letsGo s ≡ true → bytesUnread s ≡ false → to (E.freedRunning s) ≡ Waiting
+    unfolding letsGo X.selectAndTransferFree X.freeAfterDisconnect X.freeToWait
     free-waits e u =
-        let f : both (eqb (s .registers .phase) 0x42) (not (idi s)) ≡ true = both-second (isTransfer (s .transfer .running)) _ e in
+        let f : both (eqb (s .registers .descriptor .phase) 0x42) (not (idi s)) ≡ true = both-second (isSelectAndTransfer (s .transfer .running)) _ e in
         ap to
         (transfer-freed s q x (both-first _ _ e) ∙ taken _ _ (both-first _ _ f)
-        ∙ passed-over _ _ (not-true _ (both-second (eqb (s .registers .phase) 0x42) _ f))
+        ∙ passed-over _ _ (not-true _ (both-second (eqb (s .registers .descriptor .phase) 0x42) _ f))
         ∙ passed-over _ _ u)
 
 pub goes-there : {c : Call} {s : State} {x : Connection} → Goes c s x → place (step c s .state) ≡ x

@@ -15,18 +15,16 @@ use Rattle.chip.specs.State.{fresh}
 use Rattle.chip.specs.Lines.{bit}
 use Rattle.chip.specs.Answers.{number, value}
 use Rattle.chip.specs.Interrupts.{isEnding}
-use Rattle.chip.specs.Commands.{isConnected, isDisconnected}
-use Rattle.chip.specs.Calls.{Call, Outcome, pointer, auxiliary, register, time, answer, reselection, free, step}
+use Rattle.chip.specs.Connections.{isConnected, isDisconnected, isSelecting}
+use Rattle.chip.specs.Calls.{Call, Outcome, pointer, auxiliary, register, time, answer, reselection, free, step, run}
 use Rattle.chip.specs.declared.State.{State}
 use Rattle.chip.specs.declared.Wire.{Wire}
 use Rattle.chip.specs.declared.Connection.the-variants.{Disconnected, Selecting, Connected}
 use Rattle.chip.proofs.Computing.{everything}
 use Rattle.unread.specs.Status.{isCommand, isReset, isSelection, readsAt, raised}
-use Rattle.unread.specs.History.{run}
 use Rattle.unread.specs.Codes.{Selects}
 use Rattle.unread.specs.Wrong.{instead, drops}
 use Rattle.unread.proofs.Choosing.{clash}
-use Rattle.unread.proofs.Telling.{isSelecting}
 use Rattle.unread.proofs.Because.{raised-because, ending-because}
 use Rattle.unread.proofs.Codes.{before, before-one, since-last, since-back}
 use Rattle.unread.proofs.Refuted.{callsEnding}

@@ -11,16 +11,12 @@ use Rattle.chip.specs.SelectAndTransfer as X
 use Rattle.chip.specs.Events as E
 use Rattle.chip.specs.declared.State.{State}
 use Rattle.chip.specs.declared.Reply.{Reply}
-use Rattle.chip.specs.declared.Connection.{Connection}
-use Rattle.chip.specs.declared.Connection.the-variants.{Disconnected, Selecting, Waiting, Connected}
 use Rattle.chip.specs.declared.Direction.{Direction}
 use Rattle.chip.specs.declared.Direction.the-variants.{Unfixed, In, Out}
 use Rattle.chip.specs.declared.Phase.{Phase}
 use Rattle.chip.specs.declared.Phase.the-variants.{DataOut, DataIn, CommandOut, StatusIn, UnspecifiedOut, UnspecifiedIn, MessageOut, MessageIn}
 use Rattle.chip.specs.declared.Stage.{Stage}
 use Rattle.chip.specs.declared.Stage.the-variants.{SendIdentify, SendCommand, Body, AfterData, Disconnecting, Reselected, AfterStatus, Elsewhere}
-use Rattle.chip.specs.declared.Running.{Running}
-use Rattle.chip.specs.declared.Running.the-variants.{Idle, SelectWithAtn, SelectWithoutAtn, TransferWithAtn, TransferWithoutAtn, TransferInfo}
 use Rattle.chip.proofs.Cases.{by-pick}
 use Rattle.unread.proofs.Bus.{remembered-keeps}
 use Rattle.unread.proofs.Placed.{place}
@@ -40,8 +36,8 @@ module _ (s : State) where
   unfolding I.unlessHalted I.halted
   unless-halted bad r h = by-pick Rests _ (unless-int _ (ended-stays _ _)) h
 
-  info-rests : (p : Phase) (b : ℕ) (bad : Bool) → Rests (I.infoRequest p b bad s)
-  unfolding I.infoRequest I.infoIn I.infoTaken I.infoOut I.infoOver I.takenIn I.parityNoted lowered
+  info-rests : (p : Phase) (b : ℕ) (bad : Bool) → Rests (I.transferInfoRequest p b bad s)
+  unfolding I.transferInfoRequest I.transferInfoOffered I.transferInfoTaken I.transferInfoSent I.transferInfoOver I.takenIn I.parityNoted lowered
   info-rests p b bad =
       by-pick Rests _
       (by-pick Rests _
@@ -121,23 +117,14 @@ module _ (s : State) where
   unfolding E.idleRequest raise outgoingDropped
   idle-rests p = by-pick Rests _ refl (unless-int _ refl)
 
-  served-rests : (r : Running) (p : Phase) (b : ℕ) (bad : Bool) → Rests (E.servedBy r p b bad s)
-  unfolding X.transferRequest
-  served-rests Idle p b bad = idle-rests p
-  served-rests SelectWithAtn p b bad = idle-rests p
-  served-rests SelectWithoutAtn p b bad = idle-rests p
-  served-rests TransferWithAtn p b bad = stage-rests _ p b bad
-  served-rests TransferWithoutAtn p b bad = stage-rests _ p b bad
-  served-rests TransferInfo p b bad = info-rests p b bad
+  running-rests : (p : Phase) (b : ℕ) (bad : Bool) → Rests (E.requestedRunning p b bad s)
+  unfolding E.requestedRunning X.selectAndTransferRequest
+  running-rests p b bad = by-pick Rests _ (stage-rests _ p b bad) (by-pick Rests _ (info-rests p b bad) (idle-rests p))
 
-  connected-rests : (x : Connection) (p : Phase) (b : ℕ) (bad : Bool) → Rests (E.requestedBy x p b bad s)
+  connected-rests : (p : Phase) (b : ℕ) (bad : Bool) → Rests (E.requestedConnected p b bad s)
   unfolding E.requestedConnected
-  connected-rests Disconnected p b bad = refl
-  connected-rests Selecting p b bad = refl
-  connected-rests Waiting p b bad = refl
-  connected-rests Connected p b bad =
-      by-pick Rests _ refl (by-pick Rests _ refl (served-rests (s .transfer .running) p b bad))
+  connected-rests p b bad = by-pick Rests _ refl (by-pick Rests _ refl (running-rests p b bad))
 
   pub request-rests : (p : Phase) (b : ℕ) (bad : Bool) → Rests (E.requested p b bad s)
   unfolding E.requested
-  request-rests p b bad = remembered-keeps place (λ x t. refl) p _ ∙ connected-rests (place s) p b bad
+  request-rests p b bad = remembered-keeps place (λ x t. refl) p _ ∙ by-pick Rests _ (connected-rests p b bad) refl

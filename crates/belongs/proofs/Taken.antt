@@ -9,24 +9,22 @@ use borrow.Author.Tests.{not-true}
 use Rattle.chip.specs.Choice.{pick, both, either}
 use Rattle.chip.specs.Lines.{qualifies}
 use Rattle.chip.specs.State.{fresh}
-use Rattle.chip.specs.Interrupts.{interrupted, isInterrupt, ends, isEnding, unlessInterrupt, unread}
+use Rattle.chip.specs.Interrupts.{interrupted, isInterrupt, inEnding, isEnding, unlessInterrupt, bytesUnread}
+use Rattle.chip.specs.TransferInfo as I
 use Rattle.chip.specs.SelectAndTransfer as X
-use Rattle.chip.specs.Commands.{isConnected}
+use Rattle.chip.specs.Connections.{isConnected, isSelecting}
 use Rattle.chip.specs.Events as E
-use Rattle.chip.specs.Calls.{Call, Outcome, pointer, auxiliary, register, block, time, answer, reselection, request, free, isGood, plain, carried, step}
+use Rattle.chip.specs.Calls.{Call, Outcome, pointer, auxiliary, register, block, time, answer, reselection, request, free, isGood, plain, carried, step, run}
 use Rattle.chip.specs.declared.State.{State}
 use Rattle.chip.specs.declared.Reply.{Reply}
 use Rattle.chip.specs.declared.Answer.the-variants.{Done}
 use Rattle.chip.specs.declared.Connection.{Connection}
-use Rattle.chip.specs.declared.Connection.the-variants.{Disconnected, Selecting, Waiting, Connected}
-use Rattle.chip.specs.declared.Running.{Running}
-use Rattle.chip.specs.declared.Running.the-variants.{Idle, SelectWithAtn, SelectWithoutAtn, TransferWithAtn, TransferWithoutAtn, TransferInfo}
-use Rattle.chip.proofs.Cases.{by-pick, by-case, by-test, both-first, both-second, either-first, either-rest}
+use Rattle.chip.specs.declared.Connection.the-variants.{Disconnected, Waiting, Connected}
+use Rattle.chip.proofs.Cases.{by-pick, by-case, by-test, both-first, both-second, either-first, either-rest, taken, passed-over}
 use Rattle.unread.specs.Status.{isCommandOf, isCommand, isReset, isDisconnect, readsAt}
-use Rattle.unread.specs.History.{run}
 use Rattle.unread.specs.Because.{Quiet, ReadsLast, byte, slice}
 use Rattle.unread.specs.Ending.{isEvent, Untouched}
-use Rattle.unread.proofs.Choosing.{clash, taken}
+use Rattle.unread.proofs.Choosing.{clash}
 use Rattle.unread.proofs.Telling.{quiet-of}
 use Rattle.unread.proofs.Told.{good-step}
 use Rattle.unread.proofs.Ending.{Refuses, refuses, refuses-bad}
@@ -34,6 +32,7 @@ use Rattle.belongs.specs.StillBus.{isPending}
 use Rattle.belongs.specs.Connection as C
 use Rattle.belongs.specs.Connection.{Goes, letsGo, isCaller}
 use Rattle.belongs.proofs.StillBus.{still-bus}
+use Rattle.chip.proofs.Numbers.{is-connected, is-selecting}
 
 module _ (s : State) (q : Quiet s) where
   abbrev Takes : Reply → Type 0
@@ -43,37 +42,29 @@ module _ (s : State) (q : Quiet s) where
   unfolding unlessInterrupt
   unless-int r h = by-case Takes _ (λ i. clash i (ap isInterrupt q)) (λ i. h)
 
-  unless-ends : (r a : Reply) → Takes r → Takes (pick (ends s) a r)
+  unless-ends : (r a : Reply) → Takes r → Takes (pick (inEnding s) a r)
   unless-ends r a h = by-case Takes _ (λ e. clash e (ap isEnding q)) (λ e. h)
 
-  answer-takes : Takes (E.answeredBy Selecting s)
+  answer-takes : Takes (E.answeredSelecting s)
   unfolding E.answeredSelecting
   answer-takes = unless-ends _ _ (by-pick Takes _ refl (unless-int _ refl))
 
-  loud-takes : (lines : ℕ) → Takes (E.reselectedLoud lines s)
-  unfolding E.reselectedLoud
-  loud-takes lines = unless-int _ refl
+  with-code-takes : (lines : ℕ) → Takes (E.reselectedWithCode lines s)
+  unfolding E.reselectedWithCode
+  with-code-takes lines = unless-int _ refl
 
-  reselection-takes : (lines : ℕ) (x : Connection) → isConnected x ≡ false → Takes (E.reselectedBy x lines s)
-  unfolding E.reselectedWaiting
-  reselection-takes lines Disconnected n = unless-ends _ _ (loud-takes lines)
-  reselection-takes lines Selecting n = unless-ends _ _ (loud-takes lines)
-  reselection-takes lines Waiting n = unless-ends _ _ (by-pick Takes _ refl (loud-takes lines))
-  reselection-takes lines Connected n = clash refl n
+  reselection-takes : (lines : ℕ) → Takes (E.reselectedApart lines s)
+  unfolding E.reselectedApart
+  reselection-takes lines = unless-ends _ _ (by-pick Takes _ refl (with-code-takes lines))
 
-  transfer-takes : Takes (X.transferFree s (E.busFree s))
-  unfolding X.transferFree X.freeAfterDisconnect X.freeToWait
+  transfer-takes : Takes (X.selectAndTransferFree s (E.busFree s))
+  unfolding X.selectAndTransferFree X.freeAfterDisconnect X.freeToWait
   transfer-takes =
       by-pick Takes _ (by-pick Takes _ (unless-int _ refl) (by-pick Takes _ (unless-int _ refl) refl)) (unless-int _ refl)
 
-  freed-takes : (r : Running) → Takes (E.freedFrom r s)
-  unfolding E.idleFree
-  freed-takes Idle = unless-int _ refl
-  freed-takes SelectWithAtn = unless-int _ refl
-  freed-takes SelectWithoutAtn = unless-int _ refl
-  freed-takes TransferWithAtn = transfer-takes
-  freed-takes TransferWithoutAtn = transfer-takes
-  freed-takes TransferInfo = unless-int _ refl
+  freed-takes : Takes (E.freedRunning s)
+  unfolding E.freedRunning I.transferInfoFree E.idleFree
+  freed-takes = by-pick Takes _ transfer-takes (by-pick Takes _ (unless-int _ refl) (unless-int _ refl))
 
 -- an event by what it comes to
 comes : (c : Call) (s : State) (r : Reply) → isGood c ≡ true → carried c s ≡ plain r → r .answer ≡ Done 0 → step c s .answer ≡ Done 0
@@ -83,7 +74,7 @@ free-taken : (s : State) → Quiet s → s .wire .connection ≡ Connected → s
 unfolding carried E.freed isGood
 free-taken s q x =
     comes free s (E.freed s) refl refl
-    (ap (λ (y : Connection). E.freedBy y s .answer) x ∙ unless-ends s q _ _ (freed-takes s q (s .transfer .running)))
+    (ap (λ (r : Reply). r .answer) (taken _ _ (ap isConnected x)) ∙ unless-ends s q _ _ (freed-takes s q))
 
 -- an event is no command, and reads nothing
 no-command : (k : ℕ) (c : Call) (s : State) → isCaller c ≡ true → isCommand k c s ≡ false
@@ -123,10 +114,10 @@ row-taken v (C.aborts {c} {s} e q r x) = clash e (no-command 0x01 c s v)
 row-taken v (C.times-out g q x t l) = clash v refl
 row-taken v (C.selects {c} {s} k e w q r x u) = clash e (no-command k c s v)
 row-taken v (C.answers {s} q x) =
-    comes answer s (E.answered s) refl refl (ap (λ (y : Connection). E.answeredBy y s .answer) x ∙ answer-takes s q)
+    comes answer s (E.answered s) refl refl (ap (λ (r : Reply). r .answer) (taken _ _ (ap isSelecting x)) ∙ answer-takes s q)
 row-taken v (C.reselects {lines} {s} g q f x) =
     comes (reselection lines) s (E.reselected lines s) g refl
-    (ap (λ (r : Reply). r .answer) (taken _ _ f) ∙ reselection-takes s q lines (s .wire .connection) x)
+    (ap (λ (r : Reply). r .answer) (taken _ _ f ∙ passed-over _ _ x) ∙ reselection-takes s q lines)
 row-taken v (C.frees {s} q x e) = free-taken s q x
 row-taken v (C.lets-go {s} q x e u) = free-taken s q x
 row-taken v (C.reads-out e l) = absurd (no-read v l)
@@ -140,13 +131,9 @@ module _ (s : State) (q : Quiet s) where
   answer-elsewhere : ((x : Connection) → Goes answer s x → ⊥) → Untouched step answer s
   unfolding carried E.answered isGood
   answer-elsewhere n =
-      refuses answer s (E.answered s) (good-step answer s refl) (by-place (s .wire .connection) refl)
-    where
-      by-place : (x : Connection) → s .wire .connection ≡ x → Back (E.answeredBy x s)
-      by-place Disconnected x = record { same = refl; refused = refl }
-      by-place Selecting x = absurd (n Connected (C.answers q x))
-      by-place Waiting x = record { same = refl; refused = refl }
-      by-place Connected x = record { same = refl; refused = refl }
+      refuses answer s (E.answered s) (good-step answer s refl)
+      (by-case Back (isSelecting (s .wire .connection)) (λ x. absurd (n Connected (C.answers q (is-selecting _ x))))
+      (λ x. record { same = refl; refused = refl }))
 
   reselection-elsewhere : (lines : ℕ) → ((x : Connection) → Goes (reselection lines) s x → ⊥) → Untouched step (reselection lines) s
   unfolding carried E.reselected
@@ -154,27 +141,20 @@ module _ (s : State) (q : Quiet s) where
       by-test (isGood (reselection lines))
       (λ g. refuses (reselection lines) s (E.reselected lines s) (good-step (reselection lines) s g)
       (by-case Back (qualifies lines s)
-      (λ f. by-place g f (s .wire .connection) refl)
+      (λ f. by-case Back (isConnected (s .wire .connection)) (λ x. record { same = refl; refused = refl })
+      (λ x. absurd (n Connected (C.reselects g q f x))))
       (λ f. record { same = refl; refused = refl })))
       (refuses-bad (reselection lines) s)
-    where
-      by-place : isGood (reselection lines) ≡ true → qualifies lines s ≡ true → (x : Connection) → s .wire .connection ≡ x
-          → Back (E.reselectedBy x lines s)
-      by-place g f Disconnected x = absurd (n Connected (C.reselects g q f (ap isConnected x)))
-      by-place g f Selecting x = absurd (n Connected (C.reselects g q f (ap isConnected x)))
-      by-place g f Waiting x = absurd (n Connected (C.reselects g q f (ap isConnected x)))
-      by-place g f Connected x = record { same = refl; refused = refl }
 
   free-elsewhere : ((x : Connection) → Goes free s x → ⊥) → Untouched step free s
   unfolding carried E.freed isGood
-  free-elsewhere n = refuses free s (E.freed s) (good-step free s refl) (by-place (s .wire .connection) refl)
+  free-elsewhere n =
+      refuses free s (E.freed s) (good-step free s refl)
+      (by-case Back (isConnected (s .wire .connection)) (λ x. connected (is-connected _ x)) (λ x. record { same = refl; refused = refl }))
     where
-      by-place : (x : Connection) → s .wire .connection ≡ x → Back (E.freedBy x s)
-      by-place Disconnected x = record { same = refl; refused = refl }
-      by-place Selecting x = record { same = refl; refused = refl }
-      by-place Waiting x = record { same = refl; refused = refl }
-      by-place Connected x =
-          by-test (both (letsGo s) (not (unread s)))
+      connected : s .wire .connection ≡ Connected → {r : Reply} → Back r
+      connected x =
+          by-test (both (letsGo s) (not (bytesUnread s)))
           (λ e. absurd (n Waiting (C.lets-go q x (both-first _ _ e) (not-true _ (both-second (letsGo s) _ e)))))
           (λ e. absurd (n Disconnected (C.frees q x e)))
 

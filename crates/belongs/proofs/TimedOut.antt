@@ -11,14 +11,12 @@ use Rattle.chip.specs.Choice.{pick, either}
 use Rattle.chip.specs.State.{fresh}
 use Rattle.chip.specs.Interrupts.{interrupted, raise, outgoingDropped}
 use Rattle.chip.specs.Events as E
-use Rattle.chip.specs.Calls.{Call, pointer, auxiliary, register, block, time, answer, reselection, request, free, isGood, carried, step}
+use Rattle.chip.specs.Calls.{Call, pointer, auxiliary, register, block, time, answer, reselection, request, free, isGood, carried, step, run}
 use Rattle.chip.specs.declared.State.{State}
 use Rattle.chip.specs.declared.Reply.{Reply}
-use Rattle.chip.specs.declared.Connection.{Connection}
 use Rattle.chip.specs.declared.Connection.the-variants.{Disconnected, Selecting}
 use Rattle.chip.proofs.Cases.{by-pick, by-case, by-test}
 use Rattle.unread.specs.Status.{isReset, isCommand, isAnswer, raised}
-use Rattle.unread.specs.History.{run}
 use Rattle.unread.specs.Because.{Because, times-out}
 use Rattle.unread.specs.Codes as C
 use Rattle.unread.specs.Codes.{Raises, Since, Selects}
@@ -33,8 +31,8 @@ use Rattle.belongs.proofs.Waited.{selecting-quiet, HasWaited, waits-for
 
 -- a Time that raises a code while selecting: the timeout is over, and it leaves the controller Disconnected
 record Over (n : ℕ) (s t : State) : Type 0 where
-  limited : eqb (s .registers .timeout) 0 ≡ false
-  over : s .registers .timeout ≤ s .wire .elapsed + n
+  limited : eqb (s .registers .setup .timeout) 0 ≡ false
+  over : s .registers .setup .timeout ≤ s .wire .elapsed + n
   apart : t .wire .connection ≡ Disconnected
 
 abbrev Parts : ℕ → State → Reply → Type 0
@@ -43,7 +41,7 @@ Parts n s r = interrupted (r .state) ≡ true → Over n s (r .state)
 passed-over-time : (n : ℕ) (s : State) → s .wire .connection ≡ Selecting → interrupted s ≡ false → Parts n s (E.passed n s)
 unfolding E.passed E.selectionTime E.timedOut raise outgoingDropped
 passed-over-time n s x i =
-    by-pick (Parts n s) _ none (subst (λ (y : Connection). Parts n s (E.passedBy y n s)) (sym x) selecting)
+    by-pick (Parts n s) _ none (by-pick (Parts n s) _ selecting none)
   where
     none : interrupted s ≡ true → Over n s s
     none j = clash j i
@@ -81,10 +79,10 @@ ran-out l c r = from (has-waited l (codes-only-by .by-time l c r .2)) (raised-ov
     from (waits-for n w m) o = record { limited = o .limited; waited = n; selected = w; over = omega (arith, o .over) }
 
 comes : (l : List Call) (n w : ℕ) → isGood (time n) ≡ true → Waited step w l → run step l fresh .wire .connection ≡ Selecting
-    → eqb (run step l fresh .registers .timeout) 0 ≡ false → run step l fresh .registers .timeout ≤ w + n → Raises step l (time n) 0x42
+    → eqb (run step l fresh .registers .setup .timeout) 0 ≡ false → run step l fresh .registers .setup .timeout ≤ w + n → Raises step l (time n) 0x42
 comes l n w g v x z o =
     let b : Because (time n) (run step l fresh) 0x42 =
-    times-out g (selecting-quiet l x) x z (le-leb (run step l fresh .registers .timeout) (run step l fresh .wire .elapsed + n) (omega (arith, all-added v x z))) in
+    times-out g (selecting-quiet l x) x z (le-leb (run step l fresh .registers .setup .timeout) (run step l fresh .wire .elapsed + n) (omega (arith, all-added v x z))) in
     record {
       raises = raised-because .complete (time n) (run step l fresh) 0x42 b;
       code = raised-because .code (time n) (run step l fresh) 0x42 b;

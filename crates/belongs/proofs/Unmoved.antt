@@ -10,7 +10,7 @@ use Rattle.chip.specs.Lines.{codeOf}
 use Rattle.chip.specs.Fifo.{isEmpty}
 use Rattle.chip.specs.Answers.{noDataNow}
 use Rattle.chip.specs.Interrupts.{interrupted}
-use Rattle.chip.specs.TransferInfo.{dbr}
+use Rattle.chip.specs.Count.{dbr}
 use Rattle.chip.specs.Commands.{commanded}
 use Rattle.chip.specs.Registers as R
 use Rattle.chip.specs.Calls.{Call, Outcome, pointer, auxiliary, register, block, time, answer, reselection, request, free, isGood, isSet, carried, step}
@@ -18,12 +18,12 @@ use Rattle.chip.specs.declared.State.{State}
 use Rattle.chip.specs.declared.Reply.{Reply}
 use Rattle.chip.specs.declared.Direction.{Direction}
 use Rattle.chip.specs.declared.Direction.the-variants.{Unfixed, In, Out}
-use Rattle.chip.proofs.Cases.{by-pick, by-case}
+use Rattle.chip.proofs.Cases.{by-pick, by-case, passed-over}
 use Rattle.reached.specs.Sound.{Sound}
 use Rattle.reached.proofs.Facts.{facts}
 use Rattle.unread.specs.Status.{isReset, isCommand}
 use Rattle.unread.specs.Ending.{isEvent}
-use Rattle.unread.proofs.Choosing.{clash, passed-over}
+use Rattle.unread.proofs.Choosing.{clash}
 use Rattle.unread.proofs.Host.{stored-keeps}
 use Rattle.unread.proofs.Rows.{no-data, no-block}
 use Rattle.belongs.proofs.StillBus.{calm, unread-still}

@@ -15,13 +15,16 @@ use Rattle.chip.specs.Choice.{pick, both, either}
 use Rattle.chip.specs.Phases.{phaseOf}
 use Rattle.chip.specs.Lines.{codeOf}
 use Rattle.chip.specs.State.{fresh}
-use Rattle.chip.specs.Interrupts.{isInterrupt, isEnding, isRunning, busy, unlessInterrupt, raise, outgoingDropped}
-use Rattle.chip.specs.Commands.{isConnected, aborted, disconnected, selecting, transferring, informing, accepted, carriedOut, commanded, reset}
-use Rattle.chip.specs.Count.{loadedInfo}
+use Rattle.chip.specs.Interrupts.{isInterrupt, isEnding, busy, unlessInterrupt, raise, outgoingDropped}
+use Rattle.chip.specs.Running.{isRunning}
+use Rattle.chip.specs.Commands.{aborted, disconnected, selecting, selectAndTransferBegun, transferInfoBegun, accepted, carriedOut, commanded, reset}
+use Rattle.chip.specs.Connections.{isConnected, isSelecting}
+use Rattle.chip.specs.Count.{loadedForTransferInfo}
 use Rattle.chip.specs.Registers as R
 use Rattle.chip.specs.Events as E
-use Rattle.chip.specs.Calls.{Call, Outcome, pointer, auxiliary, register, block, time, answer, reselection, request, free, isGood, isSet, carried, step}
+use Rattle.chip.specs.Calls.{Call, Outcome, pointer, auxiliary, register, block, time, answer, reselection, request, free, isGood, isSet, carried, step, run}
 use Rattle.chip.specs.declared.State.{State}
+use Rattle.chip.specs.declared.Phase.{Phase}
 use Rattle.chip.specs.declared.Reply.{Reply}
 use Rattle.chip.specs.declared.Fifo.{Fifo}
 use Rattle.chip.specs.declared.Noted.{Noted}
@@ -33,19 +36,17 @@ use Rattle.chip.specs.declared.Connection.{Connection}
 use Rattle.chip.specs.declared.Connection.the-variants.{Disconnected, Selecting}
 use Rattle.chip.proofs.Cases.{by-pick, by-case, by-test, both-first, both-second}
 use Rattle.reached.specs.Sound as S
-use Rattle.reached.specs.Sound.{six, seven, eight, nine, Shape, idle, selects, waits, transfers, informs, ending, readOut, apart, joined}
+use Rattle.reached.specs.Sound.{six, seven, eight, nine, Shape, idle, selects, waits, selectsAndTransfers, transfersInfo, ending, readOut, apart, joined}
 use Rattle.unread.specs.Status.{isCommandOf, isCommand, isSelectCode, isSelection, isAnswer}
-use Rattle.unread.specs.History.{run}
 use Rattle.unread.specs.Because.{Quiet}
 use Rattle.unread.specs.Codes.{Selects}
 use Rattle.unread.proofs.Choosing.{clash}
-use Rattle.unread.proofs.Telling.{isSelecting}
 use Rattle.unread.proofs.Told.{Issued, issued}
 use Rattle.unread.proofs.Host.{Pops, nothing-read, one-read, ending-read, wait-read, pops, going, written-keeps, block-keeps, valid-apart}
 use Rattle.unread.proofs.Codes.{run-more, by-calls, since-end, selections-begun}
 use Rattle.unread.specs.Ending.{isTime}
 use Rattle.unread.proofs.Ending.{unreachable}
-use Rattle.belongs.proofs.StillBus.{lived}
+use Rattle.reached.proofs.Laws.{reached}
 use Rattle.belongs.specs.TimedOut.{units, Waited, begun, passed}
 
 -- the units that have added up, and register 02
@@ -54,7 +55,7 @@ record Clock : Type 0 where
   timeout : ℕ
 
 abbrev clock : State → Clock
-clock t = record { elapsed = t .wire .elapsed; timeout = t .registers .timeout }
+clock t = record { elapsed = t .wire .elapsed; timeout = t .registers .setup .timeout }
 
 -- with nothing pending, reads of the Data register leave both
 pops-clock : {s t : State} → Quiet s → Pops s t → (clock t ≡ clock s) × Quiet t
@@ -113,19 +114,24 @@ module _ (s : State) (x : s .wire .connection ≡ Selecting) (q : Quiet s) (r : 
       by-case (λ (y : Reply). So (R.stepped (s .status .pointer) y)) _ (λ h e. refl)
       (λ h. by-pick (λ (y : Reply). So (R.stepped (s .status .pointer) y)) _ (written-stays (isSet m) b h) (read-stays (s .status .pointer)))
 
-  by-place : (P : Connection → Type 0) → P Selecting → P (s .wire .connection)
-  by-place P h = subst P (sym x) h
+  not-connected : {P : Type 0} → isConnected (s .wire .connection) ≡ true → P
+  not-connected e = clash e (ap isConnected x)
 
   reselected-stays : (lines : ℕ) → So (E.reselected lines s)
-  unfolding E.reselected E.reselectedLoud E.reselectedState E.connected unlessInterrupt raise outgoingDropped
+  unfolding E.reselected E.reselectedWithCode E.reselectedApart E.reselectedState E.connected unlessInterrupt raise outgoingDropped
   reselected-stays lines =
       by-pick So _
-      (by-place (λ (y : Connection). So (E.reselectedBy y lines s))
-      (by-pick So _ (λ e. refl) (by-pick So _ (λ e. refl) (λ e. gone e refl))))
+      (by-pick So _ (λ e. refl)
+      (by-pick So _ (λ e. refl) (by-pick So _ (λ e. gone e refl) (by-pick So _ (λ e. refl) (λ e. gone e refl)))))
       (λ e. refl)
 
+  requested-stays : (p : Phase) (b : ℕ) (bad : Bool) → So (E.requested p b bad s)
+  unfolding E.requested
+  requested-stays p b bad =
+      by-case (λ (r : Reply). So (E.remembered p r)) _ not-connected (λ y. unfold E.remembered in λ e. refl)
+
   call-stays : (c : Call) → isTime c ≡ false → isAnswer c ≡ false → Stays (step c s .state)
-  unfolding step carried R.pointerSet R.pointerRead R.auxiliaryRead E.requested E.remembered E.freed
+  unfolding step carried R.pointerSet R.pointerRead R.auxiliaryRead E.freed
   call-stays (pointer m b) t a = by-pick Leads _ (by-pick So _ (λ e. refl) (λ e. refl)) (λ e. refl)
   call-stays auxiliary t a = by-pick Leads _ (λ e. refl) (λ e. refl)
   call-stays (register m b) t a = by-pick Leads _ (access-stays m b) (λ e. refl)
@@ -137,16 +143,14 @@ module _ (s : State) (x : s .wire .connection ≡ Selecting) (q : Quiet s) (r : 
   call-stays answer t a = clash refl a
   call-stays (reselection lines) t a = by-pick Leads _ (reselected-stays lines) (λ e. refl)
   call-stays (request p b z) t a =
-      by-pick Leads _
-      (by-place (λ (y : Connection). So (E.remembered (phaseOf p) (E.requestedBy y (phaseOf p) b (isSet z) s))) (λ e. refl))
-      (λ e. refl)
-  call-stays free t a = by-pick Leads _ (by-place (λ (y : Connection). So (E.freedBy y s)) (λ e. refl)) (λ e. refl)
+      by-pick Leads _ (requested-stays (phaseOf p) b (isSet z)) (λ e. refl)
+  call-stays free t a = by-pick Leads _ (by-case So _ not-connected (λ y e. refl)) (λ e. refl)
 
 -- Time adds its own units, where register 02 is not 0, and leaves that register
 record Ticks (n : ℕ) (s t : State) : Type 0 where
-  timeout : t .registers .timeout ≡ s .registers .timeout
+  timeout : t .registers .setup .timeout ≡ s .registers .setup .timeout
   most : t .wire .elapsed ≤ s .wire .elapsed + n
-  least : eqb (s .registers .timeout) 0 ≡ false → s .wire .elapsed + n ≤ t .wire .elapsed
+  least : eqb (s .registers .setup .timeout) 0 ≡ false → s .wire .elapsed + n ≤ t .wire .elapsed
 
 abbrev Grows : ℕ → State → Reply → Type 0
 Grows n s r = r .state .wire .connection ≡ Selecting → Ticks n s (r .state)
@@ -155,11 +159,12 @@ passed-grows : (n : ℕ) (s : State) → s .wire .connection ≡ Selecting → Q
 unfolding E.passed E.selectionTime E.timedOut raise outgoingDropped
 passed-grows n s x q =
     by-case (Grows n s) _ (λ f. clash f (ap isEnding q))
-    (λ f. subst (λ (y : Connection). Grows n s (E.passedBy y n s)) (sym x)
-    (by-case (Grows n s) _ (λ i. clash i (ap isInterrupt q))
+    (λ f. by-case (Grows n s) _
+    (λ y. by-case (Grows n s) _ (λ i. clash i (ap isInterrupt q))
     (λ i. by-case (Grows n s) _ (λ z e. record { timeout = refl; most = omega arith; least = λ m. clash z m })
     (λ z. by-pick (Grows n s) _ (λ e. gone e refl)
-    (λ e. record { timeout = refl; most = omega arith; least = λ m. omega arith })))))
+    (λ e. record { timeout = refl; most = omega arith; least = λ m. omega arith }))))
+    (λ y. clash (ap isSelecting x) y))
 
 time-grows : (n : ℕ) (s : State) → s .wire .connection ≡ Selecting → Quiet s → step (time n) s .state .wire .connection ≡ Selecting
     → Ticks (units (time n)) s (step (time n) s .state)
@@ -194,12 +199,12 @@ module _ (s : State) (x : s .wire .connection ≡ Disconnected) where
   not-so : {P : Type 0} → s .wire .connection ≡ Selecting → P
   not-so e = gone e (ap isSelecting x)
 
-  transferring-zero : (r : Running) (b : ℕ) → Zero (transferring r (accepted b s))
-  unfolding transferring selecting accepted
+  transferring-zero : (r : Running) (b : ℕ) → Zero (selectAndTransferBegun r (accepted b s))
+  unfolding selectAndTransferBegun selecting accepted
   transferring-zero r b = by-case Zero _ (λ y. clash y (ap isConnected x)) (λ y e. refl)
 
   carried-zero : (b k : ℕ) (single : Bool) → Zero (carriedOut k single (accepted b s))
-  unfolding carriedOut aborted disconnected selecting informing loadedInfo accepted raise outgoingDropped
+  unfolding carriedOut aborted disconnected selecting transferInfoBegun loadedForTransferInfo accepted raise outgoingDropped
   carried-zero b k single =
       by-pick Zero _ (by-case Zero _ (λ y. clash y (ap isConnected x)) (λ y e. gone e refl))
       (by-pick Zero _ not-so
@@ -250,27 +255,27 @@ select-runs seven = refl
 select-runs eight = refl
 select-runs nine = refl
 
-at-work : {one : Bool} {n : ℕ} {p : Pending} {r : Running} {c : Connection} {d : Direction} {f : Fifo} {atn ack : Bool} {w : Noted}
-    → isSelecting c ≡ true → Shape one n p r c d f atn ack w → (p ≡ Nothing) × (isRunning r ≡ true)
+at-work : {single : Bool} {n : ℕ} {p : Pending} {r : Running} {c : Connection} {d : Direction} {f : Fifo} {atn ack : Bool} {w : Noted}
+    → isSelecting c ≡ true → Shape single n p r c d f atn ack w → (p ≡ Nothing) × (isRunning r ≡ true)
 at-work e (idle a b c apart) = clash e refl
 at-work e (idle a b c joined) = clash e refl
 at-work e (selects a b c) = (refl, select-runs a)
 at-work e (waits a b) = clash e refl
-at-work e (transfers a b) = clash e refl
-at-work e (informs a b) = clash e refl
+at-work e (selectsAndTransfers a b) = clash e refl
+at-work e (transfersInfo a b) = clash e refl
 at-work e (ending a b apart) = clash e refl
 at-work e (ending a b joined) = clash e refl
 at-work e (readOut a b) = clash e refl
 
 pub selecting-quiet : (l : List Call) → run step l fresh .wire .connection ≡ Selecting → Quiet (run step l fresh)
-selecting-quiet l y = at-work (ap isSelecting y) (lived l .shape) .0
+selecting-quiet l y = at-work (ap isSelecting y) (reached l .shape) .0
 
 -- one more call of a selection that goes on
 module _ (l : List Call) (c : Call) (y : run step l fresh .wire .connection ≡ Selecting) (a : isAnswer c ≡ false)
     (e : run step (l ++ (c ∷ [])) fresh .wire .connection ≡ Selecting) where
   works : busy (run step l fresh) ≡ true
   unfolding busy either
-  works = rw (at-work (ap isSelecting y) (lived l .shape) .1)
+  works = rw (at-work (ap isSelecting y) (reached l .shape) .1)
 
   one-more-ticks : Ticks (units c) (run step l fresh) (run step (l ++ (c ∷ [])) fresh)
   one-more-ticks =
@@ -301,9 +306,9 @@ has-waited l =
 
 -- all of these units have added up, where register 02 is not 0
 pub all-added : {n : ℕ} {l : List Call} → Waited step n l → run step l fresh .wire .connection ≡ Selecting
-    → eqb (run step l fresh .registers .timeout) 0 ≡ false → n ≤ run step l fresh .wire .elapsed
+    → eqb (run step l fresh .registers .setup .timeout) 0 ≡ false → n ≤ run step l fresh .wire .elapsed
 all-added (begun l c b) e z = omega arith
 all-added (passed l c w y a) e z =
     let g = one-more-ticks l c y a e in
-    let z' : eqb (run step l fresh .registers .timeout) 0 ≡ false = rw (g .timeout) at z in
+    let z' : eqb (run step l fresh .registers .setup .timeout) 0 ≡ false = rw (g .timeout) at z in
     omega (arith, all-added w y z', g .least z')

@@ -14,14 +14,13 @@ use Prim.Native.Nat.{ℕ}
 use Rattle.chip.specs.Choice.{either}
 use Rattle.chip.specs.Lines.{packed}
 use Rattle.chip.specs.State.{fresh, setPointer}
-use Rattle.chip.specs.Interrupts.{interrupted, ends, busy}
-use Rattle.chip.specs.TransferInfo.{dbr}
-use Rattle.chip.specs.Calls.{Call, Outcome, pointer, auxiliary, register, isByte}
+use Rattle.chip.specs.Interrupts.{interrupted, inEnding, busy}
+use Rattle.chip.specs.Count.{dbr}
+use Rattle.chip.specs.Calls.{Call, Outcome, pointer, auxiliary, register, isByte, run}
 use Rattle.chip.specs.declared.State.{State}
 use Rattle.chip.specs.declared.Answer.the-variants.{Done, Blind}
 use Rattle.chip.specs.declared.Pending.the-variants.{Ending}
 use Rattle.unread.specs.Status.{isReset, readsAt}
-use Rattle.unread.specs.History.{run}
 use Rattle.unread.specs.Because.{Because, Begins}
 use Rattle.unread.specs.Codes.{Since}
 use Rattle.unread.specs.Ending.{isEvent, Untouched}
@@ -32,7 +31,7 @@ flags s = packed (interrupted s) (s .status .lci) (busy s) (s .status .pe) (dbr 
 
 -- the read of an ending's last byte raises a code too, but it is not its cause
 pub data Causes (c : Call) (s : State) (k : ℕ) : Type 0 where
-  at-once : Because c s k → either (not (ends s)) (isReset c s) ≡ true → Causes c s k
+  at-once : Because c s k → either (not (inEnding s)) (isReset c s) ≡ true → Causes c s k
   to-come : Begins c s k → Causes c s k
 
 pub data Owes (k : ℕ) (s : State) : Type 0 where

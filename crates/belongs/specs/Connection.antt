@@ -13,22 +13,22 @@ use lib.Dec.{eqb, leb}
 use Rattle.chip.specs.Choice.{both, either}
 use Rattle.chip.specs.Lines.{idi, qualifies}
 use Rattle.chip.specs.State.{fresh}
-use Rattle.chip.specs.Interrupts.{interrupted, isRunning, unread}
-use Rattle.chip.specs.Commands.{isConnected, isValid}
-use Rattle.chip.specs.Events.{isTransfer}
-use Rattle.chip.specs.Calls.{Call, Outcome, time, answer, reselection, free, kind, isGood}
+use Rattle.chip.specs.Interrupts.{interrupted, bytesUnread}
+use Rattle.chip.specs.Running.{isRunning, isSelectAndTransfer}
+use Rattle.chip.specs.Commands.{isValid}
+use Rattle.chip.specs.Connections.{isConnected}
+use Rattle.chip.specs.Calls.{Call, Outcome, time, answer, reselection, free, kind, isGood, run}
 use Rattle.chip.specs.declared.State.{State}
 use Rattle.chip.specs.declared.Answer.the-variants.{Done}
 use Rattle.chip.specs.declared.Connection.{Connection}
 use Rattle.chip.specs.declared.Connection.the-variants.{Disconnected, Selecting, Waiting, Connected}
 use Rattle.chip.specs.declared.Pending.the-variants.{ReadOut}
 use Rattle.unread.specs.Status.{isCommand, isReset, isSelectCode, isDisconnect}
-use Rattle.unread.specs.History.{run}
 use Rattle.unread.specs.Because.{Quiet, ReadsLast}
 use Rattle.unread.specs.Ending.{Untouched}
 
 unfoldable pub letsGo : State → Bool
-letsGo s = both (isTransfer (s .transfer .running)) (both (eqb (s .registers .phase) 0x42) (not (idi s)))
+letsGo s = both (isSelectAndTransfer (s .transfer .running)) (both (eqb (s .registers .descriptor .phase) 0x42) (not (idi s)))
 
 pub data Goes : Call → State → Connection → Type 0 where
   -- Reset; Disconnect while connected, with no status unread; Abort while selecting or waiting
@@ -38,7 +38,7 @@ pub data Goes : Call → State → Connection → Type 0 where
       → isConnected (s .wire .connection) ≡ false → Goes c s Disconnected
   -- Time, selecting, when the units that have added up reach register 02, which is not 0
   times-out : {n : ℕ} {s : State} → isGood (time n) ≡ true → Quiet s → s .wire .connection ≡ Selecting
-      → eqb (s .registers .timeout) 0 ≡ false → leb (s .registers .timeout) (s .wire .elapsed + n) ≡ true → Goes (time n) s Disconnected
+      → eqb (s .registers .setup .timeout) 0 ≡ false → leb (s .registers .setup .timeout) (s .wire .elapsed + n) ≡ true → Goes (time n) s Disconnected
   -- a valid Select, Disconnected and idle
   selects : {c : Call} {s : State} (k : ℕ) → isCommand k c s ≡ true → isSelectCode k ≡ true → Quiet s
       → isRunning (s .transfer .running) ≡ false → s .wire .connection ≡ Disconnected → isValid k s ≡ true → Goes c s Selecting
@@ -48,8 +48,8 @@ pub data Goes : Call → State → Connection → Type 0 where
   reselects : {lines : ℕ} {s : State} → isGood (reselection lines) ≡ true → Quiet s → qualifies lines s ≡ true
       → isConnected (s .wire .connection) ≡ false → Goes (reselection lines) s Connected
   -- Free, connected: Disconnected, or, with nothing left to read, waiting for reselection
-  frees : {s : State} → Quiet s → s .wire .connection ≡ Connected → both (letsGo s) (not (unread s)) ≡ false → Goes free s Disconnected
-  lets-go : {s : State} → Quiet s → s .wire .connection ≡ Connected → letsGo s ≡ true → unread s ≡ false → Goes free s Waiting
+  frees : {s : State} → Quiet s → s .wire .connection ≡ Connected → both (letsGo s) (not (bytesUnread s)) ≡ false → Goes free s Disconnected
+  lets-go : {s : State} → Quiet s → s .wire .connection ≡ Connected → letsGo s ≡ true → bytesUnread s ≡ false → Goes free s Waiting
   -- .. or when the last byte after such a Free is read
   reads-out : {c : Call} {s : State} → s .status .pending ≡ ReadOut → ReadsLast c s → Goes c s Waiting
 

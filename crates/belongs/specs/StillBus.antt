@@ -7,14 +7,13 @@ use mathlib.Core.Bool.{Bool, true}
 use mathlib.Core.List.{List}
 use Rattle.chip.specs.Choice.{either}
 use Rattle.chip.specs.State.{fresh}
-use Rattle.chip.specs.Interrupts.{interrupted, ends}
-use Rattle.chip.specs.Calls.{Call, Outcome}
+use Rattle.chip.specs.Interrupts.{interrupted, inEnding}
+use Rattle.chip.specs.Calls.{Call, Outcome, run}
 use Rattle.chip.specs.declared.State.{State}
-use Rattle.unread.specs.History.{run}
 use Rattle.unread.specs.Ending.{isEvent, Untouched}
 
 abbrev pub isPending : State → Bool
-isPending s = either (interrupted s) (ends s)
+isPending s = either (interrupted s) (inEnding s)
 
 abbrev pub StillBus : (Call → State → Outcome) → Type 0
 StillBus f = (l : List Call) (c : Call) → isPending (run f l fresh) ≡ true → isEvent c ≡ true → Untouched f c (run f l fresh)

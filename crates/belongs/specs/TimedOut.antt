@@ -12,11 +12,10 @@ use lib.Dec.{eqb}
 use Rattle.chip.specs.Choice.{pick}
 use Rattle.chip.specs.State.{fresh}
 use Rattle.chip.specs.Interrupts.{interrupted}
-use Rattle.chip.specs.Calls.{Call, Outcome, pointer, auxiliary, register, block, time, answer, reselection, request, free, isGood}
+use Rattle.chip.specs.Calls.{Call, Outcome, pointer, auxiliary, register, block, time, answer, reselection, request, free, isGood, run}
 use Rattle.chip.specs.declared.State.{State}
 use Rattle.chip.specs.declared.Connection.the-variants.{Disconnected, Selecting}
 use Rattle.unread.specs.Status.{isAnswer}
-use Rattle.unread.specs.History.{run}
 use Rattle.unread.specs.Codes.{Raises, Since, Selects}
 use Rattle.unread.specs.Ending.{isRefusal}
 
@@ -43,10 +42,10 @@ pub data Waited (f : Call → State → Outcome) : ℕ → List Call → Type 0 
 
 -- the timeout in register 02 is over: register 02 is not 0, and so many units have passed since the selection began
 pub record RanOut (f : Call → State → Outcome) (l : List Call) (c : Call) : Type 0 where
-  pub limited : eqb (run f l fresh .registers .timeout) 0 ≡ false
+  pub limited : eqb (run f l fresh .registers .setup .timeout) 0 ≡ false
   pub waited : ℕ
   pub selected : Waited f waited l
-  pub over : run f l fresh .registers .timeout ≤ waited + units c
+  pub over : run f l fresh .registers .setup .timeout ≤ waited + units c
 
 pub record TimedOutIsTrue (f : Call → State → Outcome) : Type 0 where
   -- while it is unread nobody is connected ..
@@ -59,4 +58,4 @@ pub record TimedOutIsTrue (f : Call → State → Outcome) : Type 0 where
   pub ran-out : (l : List Call) (c : Call) → Raises f l c 0x42 → RanOut f l c
   -- .. and then it is raised
   pub comes : (l : List Call) (n w : ℕ) → isGood (time n) ≡ true → Waited f w l → run f l fresh .wire .connection ≡ Selecting
-      → eqb (run f l fresh .registers .timeout) 0 ≡ false → run f l fresh .registers .timeout ≤ w + n → Raises f l (time n) 0x42
+      → eqb (run f l fresh .registers .setup .timeout) 0 ≡ false → run f l fresh .registers .setup .timeout ≤ w + n → Raises f l (time n) 0x42

@@ -21,8 +21,10 @@ use Prim.Native.Nat.{ℕ, _+_}
 use lib.Dec.{eqb}
 use Rattle.chip.specs.Choice.{pick, both}
 use Rattle.chip.specs.State.{setSource, setPointer, setConnection, setElapsed}
-use Rattle.chip.specs.Interrupts.{interrupted, isRunning, busy, raise}
-use Rattle.chip.specs.Commands.{isConnected, isDisconnected, selecting}
+use Rattle.chip.specs.Interrupts.{interrupted, busy, raise}
+use Rattle.chip.specs.Running.{isRunning}
+use Rattle.chip.specs.Commands.{selecting}
+use Rattle.chip.specs.Connections.{isConnected, isDisconnected}
 use Rattle.chip.specs.Calls.{Call, Outcome, kind, step}
 use Rattle.chip.specs.declared.State.{State}
 use Rattle.chip.specs.declared.Answer.the-variants.{Done}

@@ -14,9 +14,8 @@ use lib.Dec.{eqb·suc-zero}
 use Rattle.chip.specs.Choice.{pick}
 use Rattle.chip.specs.State.{setFifo}
 use Rattle.chip.specs.Fifo.{isEmpty, front, pop, push}
-use Rattle.chip.specs.Count.{left}
+use Rattle.chip.specs.Count.{left, dbr}
 use Rattle.chip.specs.Interrupts.{settled, settledBy, raise, outgoingDropped}
-use Rattle.chip.specs.TransferInfo.{dbr}
 use Rattle.chip.specs.Registers.{Moved, andThen, stopped, dataRead, dataWritten, blockRead, blockWritten}
 use Rattle.chip.specs.declared.State.{State}
 use Rattle.chip.specs.declared.Answer.the-variants.{NoDataNow}
@@ -24,9 +23,10 @@ use Rattle.chip.specs.declared.Direction.{Direction}
 use Rattle.chip.specs.declared.Direction.the-variants.{Unfixed, In, Out}
 use Rattle.chip.specs.declared.Pending.{Pending}
 use Rattle.chip.specs.declared.Pending.the-variants.{Nothing, Interrupt, Ending, ReadOut}
-use Rattle.blocks.specs.Blocks.{Run, drained, takes, filled, readBy, writtenBy}
+use Rattle.blocks.specs.Blocks.{readBy, writtenBy}
+use Rattle.fifo.specs.Bulk.{Bulk, drained, takes, filled}
 use Rattle.chip.proofs.Cases.{by-test}
-use Rattle.blocks.proofs.Runs.{drained-none, drained-more, filled-none, filled-more}
+use Rattle.fifo.proofs.BulkLaws.{drained-none, drained-more, filled-none, filled-more}
 
 -- ---- reads
 
@@ -72,7 +72,7 @@ settledBy-in (Ending c) s d = rw d (refl, refl)
 settledBy-in ReadOut s d = (d, refl)
 
 -- the run r, after which an ending settles
-abbrev readOut : Run → State → Moved
+abbrev readOut : Bulk → State → Moved
 readOut r s = record { number = r .moved; state = settled (setFifo (r .fifo) s); bytes = r .bytes }
 
 -- once the FIFO is empty an ending settles, and nothing more is read

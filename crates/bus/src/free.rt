@@ -1,16 +1,12 @@
 // Free: the Target lets the bus go.
 ghost use mathlib.Core.Path.{_≡_};
-ghost use Rattle.chip.specs.Answers.{held};
-ghost use Rattle.chip.specs.Choice.{pick};
-ghost use Rattle.chip.specs.Events.{busFree, freed, freedBy, freedFrom, idleFree};
-ghost use Rattle.chip.specs.Interrupts.{ends};
+ghost use Rattle.chip.specs.Events.{busFree, freed, freedRunning, idleFree};
 use chip::Connection;
 use chip::Reply;
-use chip::Running;
 use chip::State;
-use endings::interrupts;
 use state::answers;
-use state::get;
+use state::connections;
+use state::running;
 use state::set;
 
 fn bus_free(s: State) -> State
@@ -31,59 +27,26 @@ fn idle_free(s: State) -> Reply
     answers::done(0, interrupts::raise(0x85, bus_free(s)))
 }
 
-fn info_free(s: State) -> Reply
-    ensures { λ r. ⌜ r ≡ freedFrom Running.TransferInfo s ⌝ }
+fn freed_running(s: State) -> Reply
+    ensures { λ r. ⌜ r ≡ freedRunning s ⌝ }
 {
-    if interrupts::interrupted(s) {
-        return answers::held(s);
+    if running::is_select_and_transfer(s) {
+        return select_and_transfer::free::freed(s, bus_free(s));
     }
-    answers::done(
-        0,
-        interrupts::ending_with(transfer::info_free_code(s), bus_free(s)),
-    )
-}
-
-fn transfer_free(s: State) -> Reply
-    ensures { λ r. ⌜ r ≡ freedFrom Running.TransferWithAtn s ⌝ }
-{
-    combination::free::transfer_free(s, bus_free(s))
-}
-
-fn freed_from(r: Running, s: State) -> Reply
-    ensures { λ x. ⌜ x ≡ freedFrom r s ⌝ }
-{
-    match r {
-        Running::Idle => idle_free(s),
-        Running::SelectWithAtn => idle_free(s),
-        Running::SelectWithoutAtn => idle_free(s),
-        Running::TransferWithAtn => transfer_free(s),
-        Running::TransferWithoutAtn => transfer_free(s),
-        Running::TransferInfo => info_free(s),
+    if running::is_transfer_info(s) {
+        return transfer_info::free(s, bus_free(s));
     }
-}
-
-fn freed_connected(s: State) -> Reply
-    ensures { λ r. ⌜ r ≡ freedBy Connection.Connected s ⌝ }
-{
-    if interrupts::ends(s) {
-        return answers::held(s);
-    }
-    freed_from(get::running(s), s)
-}
-
-fn freed_by(c: Connection, s: State) -> Reply
-    ensures { λ r. ⌜ r ≡ freedBy c s ⌝ }
-{
-    match c {
-        Connection::Disconnected => answers::out_of_place(s),
-        Connection::Selecting => answers::out_of_place(s),
-        Connection::Waiting => answers::out_of_place(s),
-        Connection::Connected => freed_connected(s),
-    }
+    idle_free(s)
 }
 
 pub fn freed(s: State) -> Reply
     ensures { λ r. ⌜ r ≡ freed s ⌝ }
 {
-    freed_by(get::connection(s), s)
+    if connections::is_connected(s) {
+        if interrupts::in_ending(s) {
+            return answers::held(s);
+        }
+        return freed_running(s);
+    }
+    answers::out_of_place(s)
 }

@@ -1,65 +1,79 @@
 // Request: a phase, a byte and its parity.
 ghost use mathlib.Core.Path.{_≡_};
-ghost use Rattle.chip.specs.Events.{idleRequest, remembered, rememberedBy, requested, requestedBy, requestedConnected, servedBy};
+ghost use Rattle.chip.specs.Answers.{outOfPlace};
+ghost use Rattle.chip.specs.Choice.{pick};
+ghost use Rattle.chip.specs.Connections.{isConnected};
+ghost use Rattle.chip.specs.Events.{idleRequest, isServed, remembered, rememberedBy, requested, requestedConnected, requestedRunning};
 use chip::Answer;
-use chip::Connection;
 use chip::Noted;
 use chip::Phase;
 use chip::Reply;
-use chip::Running;
 use chip::State;
-use endings::interrupts;
 use state::answers;
-use state::codes;
-use state::get;
+use state::connections;
+use state::running;
 use state::set;
 
 fn idle_request(p: Phase, s: State) -> Reply
     ensures { λ r. ⌜ r ≡ idleRequest p s ⌝ }
 {
-    if transfer::is_reported(p, s) {
+    if transfer_info::is_reported(p, s) {
         return answers::held(s);
     }
     if interrupts::interrupted(s) {
         return answers::held(s);
     }
-    answers::reports(interrupts::raise(codes::asked(p), set::reported(s, Noted::Was(p))))
+    answers::reports(interrupts::raise(phases::coded(0x88, p), set::reported(s, Noted::Was(p))))
 }
 
-fn served_by(r: Running, p: Phase, b: u8, bad: bool, s: State) -> Reply
-    ensures { λ x. ⌜ x ≡ servedBy r p b bad s ⌝ }
+fn requested_running(p: Phase, b: u8, bad: bool, s: State) -> Reply
+    ensures { λ r. ⌜ r ≡ requestedRunning p b bad s ⌝ }
 {
-    match r {
-        Running::Idle => idle_request(p, s),
-        Running::SelectWithAtn => idle_request(p, s),
-        Running::SelectWithoutAtn => idle_request(p, s),
-        Running::TransferWithAtn => combination::transfer_request(true, p, b, bad, s),
-        Running::TransferWithoutAtn => combination::transfer_request(false, p, b, bad, s),
-        Running::TransferInfo => transfer::info_request(p, b, bad, s),
+    if running::is_select_and_transfer(s) {
+        return select_and_transfer::request(p, b, bad, s);
     }
+    if running::is_transfer_info(s) {
+        return transfer_info::request(p, b, bad, s);
+    }
+    idle_request(p, s)
 }
 
 fn requested_connected(p: Phase, b: u8, bad: bool, s: State) -> Reply
     ensures { λ r. ⌜ r ≡ requestedConnected p b bad s ⌝ }
 {
-    if interrupts::ends(s) {
+    if interrupts::in_ending(s) {
         return answers::held(s);
     }
-    if s.wire.ack {
+    if s.wire.handshake.ack {
         return answers::held(s);
     }
-    served_by(get::running(s), p, b, bad, s)
+    requested_running(p, b, bad, s)
 }
 
-fn requested_by(c: Connection, p: Phase, b: u8, bad: bool, s: State) -> Reply
-    ensures { λ r. ⌜ r ≡ requestedBy c p b bad s ⌝ }
+// A Request comes to the running command.
+pub fn is_served(s: State) -> bool
+    ensures { λ r. ⌜ r ≡ isServed s ⌝ }
 {
-    match c {
-        Connection::Disconnected => answers::out_of_place(s),
-        Connection::Selecting => answers::out_of_place(s),
-        Connection::Waiting => answers::out_of_place(s),
-        Connection::Connected => requested_connected(p, b, bad, s),
+    if connections::is_connected(s) {
+        if interrupts::in_ending(s) {
+            return false;
+        }
+        if s.wire.handshake.ack {
+            return false;
+        }
+        return true;
     }
+    false
+}
+
+// "Connected only."
+fn requested_anywhere(p: Phase, b: u8, bad: bool, s: State) -> Reply
+    ensures { λ r. ⌜ r ≡ pick (isConnected (s .wire .connection)) (requestedConnected p b bad s) (outOfPlace s) ⌝ }
+{
+    if connections::is_connected(s) {
+        return requested_connected(p, b, bad, s);
+    }
+    answers::out_of_place(s)
 }
 
 fn remembered_by(a: Answer, p: Phase, r: Reply) -> Reply
@@ -89,5 +103,5 @@ fn remembered(p: Phase, r: Reply) -> Reply
 pub fn requested(p: Phase, b: u8, bad: bool, s: State) -> Reply
     ensures { λ r. ⌜ r ≡ requested p b bad s ⌝ }
 {
-    remembered(p, requested_by(get::connection(s), p, b, bad, s))
+    remembered(p, requested_anywhere(p, b, bad, s))
 }

@@ -1,12 +1,11 @@
 // Time: units add up while selecting, to the timeout.
 ghost use mathlib.Core.Path.{_≡_};
-ghost use Rattle.chip.specs.Events.{passed, passedBy, selectionTime, timedOut};
+ghost use Rattle.chip.specs.Events.{passed, selectionTime, timedOut};
 use chip::Connection;
 use chip::Reply;
 use chip::State;
-use endings::interrupts;
 use state::answers;
-use state::get;
+use state::connections;
 use state::set;
 
 fn timed_out(s: State) -> State
@@ -21,7 +20,7 @@ fn selection_time(n: u8, s: State) -> Reply
     if interrupts::interrupted(s) {
         return answers::held(s);
     }
-    let timeout = s.registers.timeout;
+    let timeout = s.registers.setup.timeout;
     if timeout == 0 {
         return answers::done(0, s);
     }
@@ -32,22 +31,14 @@ fn selection_time(n: u8, s: State) -> Reply
     answers::done(0, set::elapsed(s, sum as u8))
 }
 
-fn passed_by(c: Connection, n: u8, s: State) -> Reply
-    ensures { λ r. ⌜ r ≡ passedBy c n s ⌝ }
-{
-    match c {
-        Connection::Disconnected => answers::done(0, s),
-        Connection::Selecting => selection_time(n, s),
-        Connection::Waiting => answers::done(0, s),
-        Connection::Connected => answers::done(0, s),
-    }
-}
-
 pub fn passed(n: u8, s: State) -> Reply
     ensures { λ r. ⌜ r ≡ passed n s ⌝ }
 {
-    if interrupts::ends(s) {
+    if interrupts::in_ending(s) {
         return answers::done(0, s);
     }
-    passed_by(get::connection(s), n, s)
+    if connections::is_selecting(s) {
+        return selection_time(n, s);
+    }
+    answers::done(0, s)
 }

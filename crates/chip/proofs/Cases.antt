@@ -2,6 +2,7 @@
 --   by-pick        what holds of both sides of a `pick` holds of it
 --   by-case        the same, each side with the test's value in hand
 --   by-test        what follows where a test holds, and where it does not, follows
+--   taken passed-over   a `pick` whose test is known
 --   true-or-false  a test holds or it does not
 --   pick-ap        a function of a `pick` is a `pick` of its values
 --   both-first     where both tests hold, the first does
@@ -10,7 +11,7 @@
 --   either-rest    nor does the second
 --   either-second  where one of two holds and the first does not, the second does
 --   either-last    one of two holds where the second does
-use mathlib.Core.Path.{_≡_, refl, sym}
+use mathlib.Core.Path.{_≡_, refl}
 use mathlib.Core.Bool.{Bool, true, false, true≢false}
 use mathlib.Core.Logic.{_⊎_, inl, inr}
 use Rattle.chip.specs.Choice.{pick, both, either}
@@ -28,6 +29,14 @@ by-case P false x y = y refl
 pub by-test : {P : Type 0} (t : Bool) → (t ≡ true → P) → (t ≡ false → P) → P
 by-test true a b = a refl
 by-test false a b = b refl
+
+pub taken : {A : Type 0} {t : Bool} (a b : A) → t ≡ true → pick t a b ≡ a
+unfolding pick
+taken a b e = rw e
+
+pub passed-over : {A : Type 0} {t : Bool} (a b : A) → t ≡ false → pick t a b ≡ b
+unfolding pick
+passed-over a b e = rw e
 
 pub true-or-false : (t : Bool) → (t ≡ true) ⊎ (t ≡ false)
 true-or-false true = inl refl

@@ -17,12 +17,12 @@ unfolding Choice.pick Choice.both Choice.either Phases.phaseOf Lines.isOn Lines.
     Lines.er Lines.isSingle Lines.codeOf Lines.ownIdentity Lines.destination Lines.sameIdentity Lines.lunOf
     Lines.identify Lines.lineOf Lines.ones Lines.qualifies Lines.areTwo Lines.lowest Lines.without
     Lines.otherIdentity Lines.sourceAfter Fifo.waiting Fifo.isEmpty Fifo.hasRoom Fifo.front Fifo.pop Fifo.waits
-    Fifo.push Count.left Count.noneLeft Count.isLast Count.lowered Count.loaded Count.meansOne Count.loadedInfo
-    Interrupts.busy Interrupts.outgoingDropped Interrupts.raise Interrupts.unread Interrupts.endingWith
-    Interrupts.settledBy Interrupts.settled Interrupts.unlessInterrupt TransferInfo.dbr TransferInfo.halted
-    TransferInfo.unlessHalted TransferInfo.parityNoted TransferInfo.atnAfter TransferInfo.infoOut
-    TransferInfo.takenIn TransferInfo.infoTaken TransferInfo.infoIn TransferInfo.overCode TransferInfo.infoOver
-    TransferInfo.infoRequest TransferInfo.infoFreeCode SelectAndTransfer.sizeOf SelectAndTransfer.size
+    Fifo.push Count.left Count.noneLeft Count.isLast Count.lowered Count.loaded Count.meansOne Count.loadedForTransferInfo
+    Interrupts.busy Interrupts.outgoingDropped Interrupts.raise Interrupts.bytesUnread Interrupts.endingWith
+    Interrupts.settledBy Interrupts.settled Interrupts.unlessInterrupt Count.dbr TransferInfo.halted
+    TransferInfo.unlessHalted TransferInfo.parityNoted TransferInfo.atnAfter TransferInfo.transferInfoSent
+    TransferInfo.takenIn TransferInfo.transferInfoTaken TransferInfo.transferInfoOffered TransferInfo.overCode TransferInfo.transferInfoOver
+    TransferInfo.transferInfoRequest TransferInfo.transferInfoFreeCode TransferInfo.transferInfoFree SelectAndTransfer.sizeOf SelectAndTransfer.size
     SelectAndTransfer.firstStage SelectAndTransfer.nextStage SelectAndTransfer.isCommandPhase
     SelectAndTransfer.stageOf SelectAndTransfer.unexpected SelectAndTransfer.sendIdentify
     SelectAndTransfer.sendCommand SelectAndTransfer.phaseAfter SelectAndTransfer.sendData
@@ -30,19 +30,19 @@ unfolding Choice.pick Choice.both Choice.either Phases.phaseOf Lines.isOn Lines.
     SelectAndTransfer.takeStatus SelectAndTransfer.takeSave SelectAndTransfer.takeDisconnect
     SelectAndTransfer.takeMessage SelectAndTransfer.bodyRequest SelectAndTransfer.lateRequest
     SelectAndTransfer.takeIdentify SelectAndTransfer.completed SelectAndTransfer.takeComplete
-    SelectAndTransfer.requestAt SelectAndTransfer.transferRequest SelectAndTransfer.freeToWait
-    SelectAndTransfer.freeAfterDisconnect SelectAndTransfer.transferFree SelectAndTransfer.fromDisconnected
+    SelectAndTransfer.requestAt SelectAndTransfer.stage SelectAndTransfer.selectAndTransferRequest SelectAndTransfer.freeToWait
+    SelectAndTransfer.freeAfterDisconnect SelectAndTransfer.selectAndTransferFree SelectAndTransfer.fromDisconnected
     SelectAndTransfer.hasSize SelectAndTransfer.isEarly SelectAndTransfer.isMiddle SelectAndTransfer.isAtEnd
     SelectAndTransfer.isResumable SelectAndTransfer.ackAfterResume SelectAndTransfer.resumed Commands.table
-    Commands.entryOf Commands.isReady Commands.isValid Commands.reset Commands.aborted Commands.disconnected
-    Commands.selecting Commands.transferring Commands.informing Commands.carriedOut Commands.accepted
+    Commands.entryOf Commands.isReady Commands.isValid Commands.resetCode Commands.reset Commands.aborted Commands.disconnected
+    Commands.selecting Commands.selectAndTransferBegun Commands.transferInfoBegun Commands.carriedOut Commands.accepted
     Commands.isRefusedBusy Commands.commanded Registers.pointerRead Registers.pointerSet Registers.auxiliaryRead
     Registers.pointerAfter Registers.isBlind Registers.registerAt Registers.highWritten Registers.middleWritten
-    Registers.lowWritten Registers.stored Registers.dataRead Registers.dataWritten Registers.readAt
+    Registers.lowWritten Registers.storedIn Registers.stored Registers.dataRead Registers.dataWritten Registers.readAt
     Registers.writtenAt Registers.stepped Registers.accessedAt Registers.accessed Registers.blockRead
     Registers.blockWritten Events.timedOut Events.selectionTime Events.passed Events.connected
-    Events.answeredState Events.answeredSelecting Events.answered Events.reselectedState Events.reselectedLoud
-    Events.namesTarget Events.reselectedWaiting Events.reselected Events.idleRequest Events.requestedConnected
-    Events.remembered Events.requested Events.busFree Events.idleFree Events.freed Calls.isGood Calls.carried
-    Calls.step Calls.after Calls.answers
+    Events.answeredState Events.answeredSelecting Events.answered Events.reselectedState Events.reselectedWithCode
+    Events.namesTarget Events.reselectedApart Events.reselected Events.idleRequest Events.requestedRunning Events.requestedConnected Events.isServed
+    Events.remembered Events.requested Events.busFree Events.idleFree Events.freedRunning Events.freed Calls.isGood Calls.carried
+    Calls.step Calls.run
 everything = tt

@@ -1,4 +1,15 @@
 pub mod Cases
+pub mod FifoLaws
+pub mod Numbers
 pub mod Sizes
 pub mod Computing
 pub mod Sessions
+pub mod ImageLists
+pub mod ImageTests
+pub mod ImagePlaces
+pub mod ImageForms
+pub mod ImageValid
+pub mod ImageLaws
+pub mod ImageFields
+pub mod ImageRegisters
+pub mod Moves

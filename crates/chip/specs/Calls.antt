@@ -104,12 +104,7 @@ lentBy free = []
 unfoldable pub step : Call → State → Outcome
 step c s = pick (isGood c) (carried c s) (record { answer = BadNumber; state = s; lent = lentBy c })
 
--- the state after a list of calls
-unfoldable pub after : List Call → State → State
-after [] s = s
-after (c ∷ l) s = after l (step c s .state)
-
--- their answers
-unfoldable pub answers : List Call → State → List Answer
-answers [] s = []
-answers (c ∷ l) s = step c s .answer ∷ answers l (step c s .state)
+-- the state that a list of calls leads to, by a step f: the controller's own is `step`
+unfoldable pub run : (Call → State → Outcome) → List Call → State → State
+run f [] s = s
+run f (c ∷ l) s = run f l (f c s .state)

@@ -1,18 +1,15 @@
 -- The image of a state: 53 bytes, of which the first 25 are registers 00 to 18h at their addresses (docs/IMAGE.md).
 -- Paper: "The state is lent as an image of one fixed length, one image per state, its form and field ranges written in docs/.
 -- Another length, or bytes that are no state's image, is Bad number."
-use mathlib.Core.Bool.{Bool, true}
+use mathlib.Core.Bool.{Bool}
 use mathlib.Core.List.{List, [], _∷_, _++_}
 use Prim.Native.Nat.{ℕ, _+_, _-_, _*_, _/_, _%_}
 use lib.Dec.{eqb, ltb}
 use lib.ListN.{length, take, drop, getD}
 use Rattle.chip.specs.Choice.{pick, both, either}
+use Rattle.chip.specs.Fifo.{fifoBytes, fifoOf, isFifo}
 use Rattle.chip.specs.Lines.{bit}
 use Rattle.chip.specs.declared.State.{State}
-use Rattle.chip.specs.declared.Connection.{Connection}
-use Rattle.chip.specs.declared.Connection.the-variants.{Disconnected, Selecting, Waiting, Connected}
-use Rattle.chip.specs.declared.Running.{Running}
-use Rattle.chip.specs.declared.Running.the-variants.{Idle, SelectWithAtn, SelectWithoutAtn, TransferWithAtn, TransferWithoutAtn, TransferInfo}
 use Rattle.chip.specs.declared.Pending.{Pending}
 use Rattle.chip.specs.declared.Pending.the-variants.{Nothing, Interrupt, Ending, ReadOut}
 use Rattle.chip.specs.declared.Direction.{Direction}
@@ -20,22 +17,18 @@ use Rattle.chip.specs.declared.Direction.the-variants.{Unfixed, In, Out}
 use Rattle.chip.specs.declared.Noted.{Noted}
 use Rattle.chip.specs.declared.Noted.the-variants.{NoPhase, Was}
 use Rattle.chip.specs.Phases.{phaseNumber, phaseOf}
+use Rattle.chip.specs.Connections.{connectionNumber, connectionOf, connectionCount}
+use Rattle.chip.specs.Running.{runningNumber, runningOf, runningCount}
+
+-- how many bytes an image has
+abbrev pub imageLength : ℕ
+imageLength = 53
+
+-- where the FIFO's bytes begin; they are its end
+abbrev pub fifoPlace : ℕ
+fifoPlace = 40
 
 -- each case as a byte, in the order in which the types list them
-
-abbrev pub connectionByte : Connection → ℕ
-connectionByte Disconnected = 0
-connectionByte Selecting = 1
-connectionByte Waiting = 2
-connectionByte Connected = 3
-
-abbrev pub runningByte : Running → ℕ
-runningByte Idle = 0
-runningByte SelectWithAtn = 1
-runningByte SelectWithoutAtn = 2
-runningByte TransferWithAtn = 3
-runningByte TransferWithoutAtn = 4
-runningByte TransferInfo = 5
 
 abbrev pub directionByte : Direction → ℕ
 directionByte Unfixed = 0
@@ -45,14 +38,14 @@ directionByte Out = 2
 abbrev pub pendingByte : Pending → ℕ
 pendingByte Nothing = 0
 pendingByte Interrupt = 1
-pendingByte (Ending c) = 2
+pendingByte (Ending k) = 2
 pendingByte ReadOut = 3
 
 -- the code of an ending; 0 where there is none
 abbrev pub endingByte : Pending → ℕ
 endingByte Nothing = 0
 endingByte Interrupt = 0
-endingByte (Ending c) = c
+endingByte (Ending k) = k
 endingByte ReadOut = 0
 
 -- a phase is one more than its number, no phase is 0
@@ -62,14 +55,14 @@ notedByte (Was p) = phaseNumber p + 1
 
 -- bytes 0 to 2
 unfoldable pub headBytes : State → List ℕ
-headBytes s = s .registers .own ∷ s .registers .control ∷ s .registers .timeout ∷ []
+headBytes s = s .registers .setup .own ∷ s .registers .setup .control ∷ s .registers .setup .timeout ∷ []
 
--- bytes 15 to 40
+-- bytes 15 to 39
 unfoldable pub middleBytes : State → List ℕ
 middleBytes s =
-    s .registers .lun
-    ∷ s .registers .phase
-    ∷ s .registers .synchronous
+    s .registers .descriptor .lun
+    ∷ s .registers .descriptor .phase
+    ∷ s .registers .setup .synchronous
     ∷ s .registers .count / 65536 % 256
     ∷ s .registers .count / 256 % 256
     ∷ s .registers .count % 256
@@ -82,39 +75,29 @@ middleBytes s =
     ∷ bit (s .status .pe)
     ∷ pendingByte (s .status .pending)
     ∷ endingByte (s .status .pending)
-    ∷ connectionByte (s .wire .connection)
-    ∷ runningByte (s .transfer .running)
+    ∷ connectionNumber (s .wire .connection)
+    ∷ runningNumber (s .transfer .running)
     ∷ directionByte (s .transfer .direction)
-    ∷ bit (s .transfer .one)
-    ∷ bit (s .wire .atn)
-    ∷ bit (s .wire .ack)
-    ∷ notedByte (s .wire .reported)
-    ∷ notedByte (s .wire .last)
+    ∷ bit (s .transfer .single)
+    ∷ bit (s .wire .handshake .atn)
+    ∷ bit (s .wire .handshake .ack)
+    ∷ notedByte (s .wire .seen .reported)
+    ∷ notedByte (s .wire .seen .last)
     ∷ s .wire .identity .number
     ∷ s .wire .elapsed
-    ∷ s .fifo .held
     ∷ []
 
--- the image of a state: bytes 3 to 14 are the command bytes, 41 to 52 the FIFO's
+-- the image of a state: bytes 3 to 14 are the command bytes, 40 to 52 the FIFO's
 unfoldable pub imageOf : State → List ℕ
-imageOf s = headBytes s ++ (s .registers .cdb ++ (middleBytes s ++ s .fifo .bytes))
+imageOf s = headBytes s ++ (s .registers .descriptor .cdb ++ (middleBytes s ++ fifoBytes (s .fifo)))
 
 -- what a byte stands for
-
-unfoldable pub connectionOf : ℕ → Connection
-connectionOf n = pick (eqb n 0) Disconnected (pick (eqb n 1) Selecting (pick (eqb n 2) Waiting Connected))
-
-unfoldable pub runningOf : ℕ → Running
-runningOf n =
-    pick (eqb n 0) Idle
-    (pick (eqb n 1) SelectWithAtn
-    (pick (eqb n 2) SelectWithoutAtn (pick (eqb n 3) TransferWithAtn (pick (eqb n 4) TransferWithoutAtn TransferInfo))))
 
 unfoldable pub directionOf : ℕ → Direction
 directionOf n = pick (eqb n 0) Unfixed (pick (eqb n 1) In Out)
 
 unfoldable pub pendingOf : ℕ → ℕ → Pending
-pendingOf n c = pick (eqb n 0) Nothing (pick (eqb n 1) Interrupt (pick (eqb n 2) (Ending c) ReadOut))
+pendingOf n k = pick (eqb n 0) Nothing (pick (eqb n 1) Interrupt (pick (eqb n 2) (Ending k) ReadOut))
 
 unfoldable pub notedOf : ℕ → Noted
 notedOf n = pick (eqb n 0) NoPhase (Was (phaseOf (n - 1)))
@@ -125,13 +108,8 @@ stateOf l =
     record {
       registers =
           record {
-            own = getD l 0 0;
-            control = getD l 1 0;
-            timeout = getD l 2 0;
-            cdb = take 12 (drop 3 l);
-            lun = getD l 15 0;
-            phase = getD l 16 0;
-            synchronous = getD l 17 0;
+            setup = record { own = getD l 0 0; control = getD l 1 0; timeout = getD l 2 0; synchronous = getD l 17 0 };
+            descriptor = record { cdb = take 12 (drop 3 l); lun = getD l 15 0; phase = getD l 16 0 };
             count = getD l 18 0 * 65536 + getD l 19 0 * 256 + getD l 20 0;
             destination = getD l 21 0;
             source = getD l 22 0;
@@ -145,42 +123,35 @@ stateOf l =
             pe = eqb (getD l 27 0) 1;
             pending = pendingOf (getD l 28 0) (getD l 29 0);
           };
-      fifo = record { bytes = take 12 (drop 41 l); held = getD l 40 0 };
+      fifo = fifoOf (drop fifoPlace l);
       transfer =
           record
-          { running = runningOf (getD l 31 0); direction = directionOf (getD l 32 0); one = eqb (getD l 33 0) 1 };
+          { running = runningOf (getD l 31 0); direction = directionOf (getD l 32 0); single = eqb (getD l 33 0) 1 };
       wire =
           record {
             connection = connectionOf (getD l 30 0);
-            atn = eqb (getD l 34 0) 1;
-            ack = eqb (getD l 35 0) 1;
-            reported = notedOf (getD l 36 0);
-            last = notedOf (getD l 37 0);
+            handshake = record { atn = eqb (getD l 34 0) 1; ack = eqb (getD l 35 0) 1 };
+            seen = record { reported = notedOf (getD l 36 0); last = notedOf (getD l 37 0) };
             identity = record { number = getD l 38 0 };
             elapsed = getD l 39 0;
           };
     }
 
-abbrev pub areZero : List ℕ → Bool
-areZero [] = true
-areZero (b ∷ l) = both (eqb b 0) (areZero l)
-
--- the bytes are a state's image: the length, the range of each byte that has one, no ending's code without an ending, and zeros
--- in the FIFO's unused places
+-- the bytes are a state's image: the length, the range of each byte that has one, no ending's code without an ending, and the
+-- FIFO's own bytes
 unfoldable pub isImage : List ℕ → Bool
 isImage l =
-    both (eqb (length l) 53)
+    both (eqb (length l) imageLength)
     (both (ltb (getD l 26 0) 2)
     (both (ltb (getD l 27 0) 2)
     (both (ltb (getD l 28 0) 4)
     (both (either (eqb (getD l 28 0) 2) (eqb (getD l 29 0) 0))
-    (both (ltb (getD l 30 0) 4)
-    (both (ltb (getD l 31 0) 6)
+    (both (ltb (getD l 30 0) connectionCount)
+    (both (ltb (getD l 31 0) runningCount)
     (both (ltb (getD l 32 0) 3)
     (both (ltb (getD l 33 0) 2)
     (both (ltb (getD l 34 0) 2)
     (both (ltb (getD l 35 0) 2)
     (both (ltb (getD l 36 0) 9)
     (both (ltb (getD l 37 0) 9)
-    (both (ltb (getD l 38 0) 8)
-    (both (ltb (getD l 40 0) 13) (areZero (drop (getD l 40 0) (take 12 (drop 41 l))))))))))))))))))
+    (both (ltb (getD l 38 0) 8) (isFifo (drop fifoPlace l)))))))))))))))

@@ -7,19 +7,19 @@ use Rattle.chip.specs.declared.Reply.{Reply}
 use Rattle.chip.specs.declared.Fifo.{Fifo}
 use Rattle.chip.specs.declared.Pending.{Pending}
 use Rattle.chip.specs.declared.Pending.the-variants.{Nothing, Interrupt, Ending, ReadOut}
-use Rattle.chip.specs.declared.Running.{Running}
-use Rattle.chip.specs.declared.Running.the-variants.{Idle, SelectWithAtn, SelectWithoutAtn, TransferWithAtn, TransferWithoutAtn, TransferInfo}
+use Rattle.chip.specs.declared.Running.the-variants.{Idle}
 use Rattle.chip.specs.declared.Direction.{Direction}
 use Rattle.chip.specs.declared.Direction.the-variants.{Unfixed, In, Out}
 use Rattle.chip.specs.declared.Connection.the-variants.{Waiting}
-use Rattle.chip.specs.State.{empty, setFifo, setCode, setPending, setRunning, setDirection, setConnection}
+use Rattle.chip.specs.State.{setFifo, setCode, setPending, setRunning, setDirection, setConnection}
 use Rattle.chip.specs.Answers.{held}
-use Rattle.chip.specs.Fifo.{isEmpty}
+use Rattle.chip.specs.Fifo.{isEmpty, empty}
+use Rattle.chip.specs.Running.{isRunning}
 
 abbrev pub isInterrupt : Pending → Bool
 isInterrupt Nothing = false
 isInterrupt Interrupt = true
-isInterrupt (Ending c) = false
+isInterrupt (Ending k) = false
 isInterrupt ReadOut = false
 
 -- INT
@@ -30,28 +30,20 @@ interrupted s = isInterrupt (s .status .pending)
 abbrev pub isEnding : Pending → Bool
 isEnding Nothing = false
 isEnding Interrupt = false
-isEnding (Ending c) = true
+isEnding (Ending k) = true
 isEnding ReadOut = true
 
 -- an ending is under way
-abbrev pub ends : State → Bool
-ends s = isEnding (s .status .pending)
-
-abbrev pub isRunning : Running → Bool
-isRunning Idle = false
-isRunning SelectWithAtn = true
-isRunning SelectWithoutAtn = true
-isRunning TransferWithAtn = true
-isRunning TransferWithoutAtn = true
-isRunning TransferInfo = true
+abbrev pub inEnding : State → Bool
+inEnding s = isEnding (s .status .pending)
 
 -- "BSY (a Level II command runs)"; in an ending "BSY stays"
 unfoldable pub busy : State → Bool
-busy s = either (isRunning (s .transfer .running)) (ends s)
+busy s = either (isRunning (s .transfer .running)) (inEnding s)
 
 -- INT with a code, and nothing else
 abbrev pub interrupt : ℕ → State → State
-interrupt c s = setPending Interrupt (setCode c s)
+interrupt k s = setPending Interrupt (setCode k s)
 
 abbrev pub withoutOutgoing : Direction → Fifo → Fifo
 withoutOutgoing Unfixed q = q
@@ -70,7 +62,7 @@ outgoingDropped s =
 
 -- "A raised code sets INT, ends the command and drops an outgoing FIFO."
 unfoldable pub raise : ℕ → State → State
-raise c s = interrupt c (setRunning Idle (outgoingDropped s))
+raise k s = interrupt k (setRunning Idle (outgoingDropped s))
 
 abbrev pub isIncoming : Direction → Bool
 isIncoming Unfixed = false
@@ -83,18 +75,18 @@ isOutgoing In = false
 isOutgoing Out = true
 
 -- incoming bytes wait for the host
-unfoldable pub unread : State → Bool
-unread s = both (isIncoming (s .transfer .direction)) (not (isEmpty (s .fifo)))
+unfoldable pub bytesUnread : State → Bool
+bytesUnread s = both (isIncoming (s .transfer .direction)) (not (isEmpty (s .fifo)))
 
--- ""Ending with c": an incoming FIFO must be read out first, then c is raised."
+-- ""Ending with c": an incoming FIFO must be read out first, then c is raised." Here c is k.
 unfoldable pub endingWith : ℕ → State → State
-endingWith c s = pick (unread s) (setPending (Ending c) s) (raise c s)
+endingWith k s = pick (bytesUnread s) (setPending (Ending k) s) (raise k s)
 
 -- what the ending comes to once the FIFO is read out: its code; after a Free at 42h, that the controller waits for reselection
 unfoldable pub settledBy : Pending → State → State
 settledBy Nothing s = s
 settledBy Interrupt s = s
-settledBy (Ending c) s = raise c s
+settledBy (Ending k) s = raise k s
 settledBy ReadOut s = setConnection Waiting (setPending Nothing s)
 
 -- after each byte that the host reads
@@ -108,5 +100,5 @@ unlessInterrupt s r = pick (interrupted s) (held s) r
 abbrev pub withoutInterrupt : Pending → Pending
 withoutInterrupt Nothing = Nothing
 withoutInterrupt Interrupt = Nothing
-withoutInterrupt (Ending c) = Ending c
+withoutInterrupt (Ending k) = Ending k
 withoutInterrupt ReadOut = ReadOut

@@ -1,9 +1,11 @@
 pub mod Choice
+pub mod Connections
+pub mod Running
+pub mod Fifo
 pub mod State
 pub mod Answers
 pub mod Phases
 pub mod Lines
-pub mod Fifo
 pub mod Count
 pub mod Interrupts
 pub mod TransferInfo
@@ -11,7 +13,9 @@ pub mod SelectAndTransfer
 pub mod Commands
 pub mod Registers
 pub mod Events
+pub mod Moves
 pub mod Calls
 pub mod Image
+pub mod Ok
 pub mod Entries
 pub mod Sessions

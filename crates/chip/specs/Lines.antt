@@ -24,11 +24,11 @@ packed int lci bsy pe dbr = bit int * 128 + bit lci * 64 + bit bsy * 32 + bit pe
 
 -- HSP, bit 0 of Control: halt on a bad parity of the bus
 unfoldable pub hsp : State → Bool
-hsp s = isOn 0 (s .registers .control)
+hsp s = isOn 0 (s .registers .setup .control)
 
 -- IDI, bit 2 of Control: interrupt on an intermediate disconnect
 unfoldable pub idi : State → Bool
-idi s = isOn 2 (s .registers .control)
+idi s = isOn 2 (s .registers .setup .control)
 
 -- a Control byte with IDI on
 unfoldable pub withIdi : ℕ → ℕ
@@ -58,7 +58,7 @@ sameIdentity i j = eqb (i .number) (j .number)
 
 -- "LUN (0Fh bits 2 to 0)"
 unfoldable pub lunOf : State → Lun
-lunOf s = record { number = s .registers .lun % 8 }
+lunOf s = record { number = s .registers .descriptor .lun % 8 }
 
 -- Identify: "80h + LUN (0Fh bits 2 to 0), plus 40h if ER"
 unfoldable pub identify : Lun → Bool → ℕ

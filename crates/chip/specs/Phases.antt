@@ -37,38 +37,17 @@ comesIn UnspecifiedIn = true
 comesIn MessageOut = false
 comesIn MessageIn = true
 
-abbrev pub isCommandOut : Phase → Bool
-isCommandOut DataOut = false
-isCommandOut DataIn = false
-isCommandOut CommandOut = true
-isCommandOut StatusIn = false
-isCommandOut UnspecifiedOut = false
-isCommandOut UnspecifiedIn = false
-isCommandOut MessageOut = false
-isCommandOut MessageIn = false
-
-abbrev pub isMessageOut : Phase → Bool
-isMessageOut DataOut = false
-isMessageOut DataIn = false
-isMessageOut CommandOut = false
-isMessageOut StatusIn = false
-isMessageOut UnspecifiedOut = false
-isMessageOut UnspecifiedIn = false
-isMessageOut MessageOut = true
-isMessageOut MessageIn = false
-
-abbrev pub isMessageIn : Phase → Bool
-isMessageIn DataOut = false
-isMessageIn DataIn = false
-isMessageIn CommandOut = false
-isMessageIn StatusIn = false
-isMessageIn UnspecifiedOut = false
-isMessageIn UnspecifiedIn = false
-isMessageIn MessageOut = false
-isMessageIn MessageIn = true
-
 abbrev pub samePhase : Phase → Phase → Bool
 samePhase p q = eqb (phaseNumber p) (phaseNumber q)
+
+abbrev pub isCommandOut : Phase → Bool
+isCommandOut p = samePhase p CommandOut
+
+abbrev pub isMessageOut : Phase → Bool
+isMessageOut p = samePhase p MessageOut
+
+abbrev pub isMessageIn : Phase → Bool
+isMessageIn p = samePhase p MessageIn
 
 -- p is the phase kept in mind
 abbrev pub isNoted : Phase → Noted → Bool

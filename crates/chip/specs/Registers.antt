@@ -13,12 +13,12 @@ use Rattle.chip.specs.declared.Answer.{Answer}
 use Rattle.chip.specs.declared.Answer.the-variants.{Done, Held, OutOfPlace, BadNumber, Blind, CommandIgnored, ReselectionIgnored, NoDataNow, Reported}
 use Rattle.chip.specs.declared.Direction.{Direction}
 use Rattle.chip.specs.declared.Direction.the-variants.{Unfixed, In, Out}
-use Rattle.chip.specs.State.{setPointer, setFifo, setPending, setOwn, setControl, setTimeout, setCdb, setLun, setPhase, setSynchronous, setCount, setDestination, setSource}
+use Rattle.chip.specs.State.{setPointer, setFifo, setPending, setRegisters, withOwn, withControl, withTimeout, withCdb, withLun, withPhase, withSynchronous, withCount, withDestination, withSource}
 use Rattle.chip.specs.Answers.{says, done, noDataNow}
 use Rattle.chip.specs.Lines.{packed}
 use Rattle.chip.specs.Fifo.{front, pop, push}
 use Rattle.chip.specs.Interrupts.{interrupted, busy, settled, withoutInterrupt}
-use Rattle.chip.specs.TransferInfo.{dbr}
+use Rattle.chip.specs.Count.{dbr}
 use Rattle.chip.specs.Commands.{commanded}
 
 -- "The 8-bit address pointer is read or set .. apart from the registers."
@@ -45,13 +45,13 @@ isBlind writes a s =
 -- "Addresses 00 to 19h exist, 00 to 16h store any byte"; "The count is 12h to 14h, high byte first."
 unfoldable pub registerAt : ℕ → Registers → ℕ
 registerAt a r =
-    pick (eqb a 0x00) (r .own)
-    (pick (eqb a 0x01) (r .control)
-    (pick (eqb a 0x02) (r .timeout)
-    (pick (ltb a 0x0F) (getD (r .cdb) (a - 3) 0)
-    (pick (eqb a 0x0F) (r .lun)
-    (pick (eqb a 0x10) (r .phase)
-    (pick (eqb a 0x11) (r .synchronous)
+    pick (eqb a 0x00) (r .setup .own)
+    (pick (eqb a 0x01) (r .setup .control)
+    (pick (eqb a 0x02) (r .setup .timeout)
+    (pick (ltb a 0x0F) (getD (r .descriptor .cdb) (a - 3) 0)
+    (pick (eqb a 0x0F) (r .descriptor .lun)
+    (pick (eqb a 0x10) (r .descriptor .phase)
+    (pick (eqb a 0x11) (r .setup .synchronous)
     (pick (eqb a 0x12) (r .count / 65536 % 256)
     (pick (eqb a 0x13) (r .count / 256 % 256)
     (pick (eqb a 0x14) (r .count % 256) (pick (eqb a 0x15) (r .destination) (r .source)))))))))))
@@ -66,19 +66,23 @@ middleWritten b n = n / 65536 * 65536 + b * 256 + n % 256
 unfoldable pub lowWritten : ℕ → ℕ → ℕ
 lowWritten b n = n / 256 * 256 + b
 
+-- the registers with the one at a written
+unfoldable pub storedIn : ℕ → ℕ → Registers → Registers
+storedIn a b r =
+    pick (eqb a 0x00) (withOwn b r)
+    (pick (eqb a 0x01) (withControl b r)
+    (pick (eqb a 0x02) (withTimeout b r)
+    (pick (ltb a 0x0F) (withCdb (set (r .descriptor .cdb) (a - 3) b) r)
+    (pick (eqb a 0x0F) (withLun b r)
+    (pick (eqb a 0x10) (withPhase b r)
+    (pick (eqb a 0x11) (withSynchronous b r)
+    (pick (eqb a 0x12) (withCount (highWritten b (r .count)) r)
+    (pick (eqb a 0x13) (withCount (middleWritten b (r .count)) r)
+    (pick (eqb a 0x14) (withCount (lowWritten b (r .count)) r)
+    (pick (eqb a 0x15) (withDestination b r) (withSource b r)))))))))))
+
 unfoldable pub stored : ℕ → ℕ → State → State
-stored a b s =
-    pick (eqb a 0x00) (setOwn b s)
-    (pick (eqb a 0x01) (setControl b s)
-    (pick (eqb a 0x02) (setTimeout b s)
-    (pick (ltb a 0x0F) (setCdb (set (s .registers .cdb) (a - 3) b) s)
-    (pick (eqb a 0x0F) (setLun b s)
-    (pick (eqb a 0x10) (setPhase b s)
-    (pick (eqb a 0x11) (setSynchronous b s)
-    (pick (eqb a 0x12) (setCount (highWritten b (s .registers .count)) s)
-    (pick (eqb a 0x13) (setCount (middleWritten b (s .registers .count)) s)
-    (pick (eqb a 0x14) (setCount (lowWritten b (s .registers .count)) s)
-    (pick (eqb a 0x15) (setDestination b s) (setSource b s)))))))))))
+stored a b s = setRegisters (storedIn a b (s .registers)) s
 
 -- "At 19h, answer 7 comes exactly when DBR is 0, or on a read going out or a write coming in."
 -- The read that empties the FIFO of an ending lets its code come.

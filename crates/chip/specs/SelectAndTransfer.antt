@@ -19,19 +19,24 @@ use Rattle.chip.specs.declared.Connection.the-variants.{Waiting}
 use Rattle.chip.specs.State.{setFifo, setAck, setAtn, setReported, setPhase, setLun, setDirection, setPending, setConnection, setRunning}
 use Rattle.chip.specs.Answers.{done, held, reports}
 use Rattle.chip.specs.Phases.{phaseNumber, isCommandOut, isMessageOut, isMessageIn}
+use Rattle.chip.specs.Running.{setsAtn}
 use Rattle.chip.specs.Lines.{er, idi, lunOf, identify}
 use Rattle.chip.specs.Fifo.{isEmpty, hasRoom, front, pop}
 use Rattle.chip.specs.Count.{noneLeft, isLast, lowered, loaded}
-use Rattle.chip.specs.Interrupts.{endingWith, unlessInterrupt, outgoingDropped, unread}
+use Rattle.chip.specs.Interrupts.{endingWith, unlessInterrupt, outgoingDropped, bytesUnread}
 use Rattle.chip.specs.TransferInfo.{parityNoted, unlessHalted, takenIn}
 
 -- "CDB byte 1 is register 03; its top three bits give 6, 10 or 12 bytes for groups 0, 1, 5"; 0 for a group that has no size
 unfoldable pub sizeOf : ℕ → ℕ
 sizeOf b = pick (eqb (b / 32) 0) 6 (pick (eqb (b / 32) 1) 10 (pick (eqb (b / 32) 5) 12 0))
 
+-- the size that a controller in the state s gives to a command whose first byte is b
+abbrev pub sizeFor : State → ℕ → ℕ
+sizeFor s b = sizeOf b
+
 -- the size of the command that the registers hold
 unfoldable pub size : State → ℕ
-size s = sizeOf (getD (s .registers .cdb) 0 0)
+size s = sizeFor s (getD (s .registers .descriptor .cdb) 0 0)
 
 -- "20h, 30h, 3xh short of the size (x taken, 0 at 20h)"
 unfoldable pub firstStage : ℕ → Stage
@@ -69,11 +74,11 @@ sendIdentify p s =
 
 -- "Command takes CDB byte x+1; 31h+x"
 unfoldable pub sendCommand : ℕ → Phase → State → Reply
-sendCommand x p s = pick (isCommandOut p) (done (getD (s .registers .cdb) x 0) (setPhase (0x31 + x) s)) (unexpected p s)
+sendCommand x p s = pick (isCommandOut p) (done (getD (s .registers .descriptor .cdb) x 0) (setPhase (0x31 + x) s)) (unexpected p s)
 
 -- "at zero left, 46h"
 unfoldable pub phaseAfter : State → ℕ
-phaseAfter s = pick (isLast s) 0x46 (s .registers .phase)
+phaseAfter s = pick (isLast s) 0x46 (s .registers .descriptor .phase)
 
 -- "Data moves as above", out
 unfoldable pub sendData : State → Reply
@@ -173,24 +178,28 @@ requestAt Reselected p b bad s = takeIdentify p b bad s
 requestAt AfterStatus p b bad s = takeComplete p b bad s
 requestAt Elsewhere p b bad s = unexpected p s
 
--- a Request while a Select-And-Transfer runs, with or without ATN
-unfoldable pub transferRequest : Bool → Phase → ℕ → Bool → State → Reply
-transferRequest identifies p b bad s = requestAt (stageOf identifies (s .registers .phase) (size s)) p b bad s
+-- what the phase register of the running Select-And-Transfer stands for
+unfoldable pub stage : State → Stage
+stage s = stageOf (setsAtn (s .transfer .running)) (s .registers .descriptor .phase) (size s)
+
+-- a Request while a Select-And-Transfer runs
+unfoldable pub selectAndTransferRequest : Phase → ℕ → Bool → State → Reply
+selectAndTransferRequest p b bad s = requestAt (stage s) p b bad s
 
 -- "42h: Free gives 43h, Disconnected; with IDI, ending with 85h; without it, an outgoing FIFO stays, an incoming one is read out
 -- first, which counts as an ending under every rule, Abort's too, but raises no code; then it waits for reselection."
 -- t is s with the bus free and phase 43h.
 unfoldable pub freeToWait : State → State → Reply
 freeToWait s t =
-    pick (unread s) (unlessInterrupt s (done 0 (setPending ReadOut t))) (done 0 (setConnection Waiting t))
+    pick (bytesUnread s) (unlessInterrupt s (done 0 (setPending ReadOut t))) (done 0 (setConnection Waiting t))
 
 unfoldable pub freeAfterDisconnect : State → State → Reply
 freeAfterDisconnect s t = pick (idi s) (unlessInterrupt s (done 0 (endingWith 0x85 t))) (freeToWait s t)
 
 -- "a Free elsewhere: Disconnected, ending with 41h"
-unfoldable pub transferFree : State → State → Reply
-transferFree s t =
-    pick (eqb (s .registers .phase) 0x42) (freeAfterDisconnect s (setPhase 0x43 t)) (unlessInterrupt s (done 0 (endingWith 0x41 t)))
+unfoldable pub selectAndTransferFree : State → State → Reply
+selectAndTransferFree s t =
+    pick (eqb (s .registers .descriptor .phase) 0x42) (freeAfterDisconnect s (setPhase 0x43 t)) (unlessInterrupt s (done 0 (endingWith 0x41 t)))
 
 -- "From Disconnected, phase 00."
 unfoldable pub fromDisconnected : State → State
@@ -214,16 +223,16 @@ isAtEnd phase = either (eqb phase 0x46) (either (eqb phase 0x50) (eqb phase 0x60
 
 unfoldable pub isResumable : State → Bool
 isResumable s =
-    pick (isEarly (s .registers .phase)) (hasSize s)
-    (either (isMiddle (s .registers .phase)) (isAtEnd (s .registers .phase)))
+    pick (isEarly (s .registers .descriptor .phase)) (hasSize s)
+    (either (isMiddle (s .registers .descriptor .phase)) (isAtEnd (s .registers .descriptor .phase)))
 
 -- "It releases ACK except at 46h"
 unfoldable pub ackAfterResume : State → Bool
-ackAfterResume s = both (eqb (s .registers .phase) 0x46) (s .wire .ack)
+ackAfterResume s = both (eqb (s .registers .descriptor .phase) 0x46) (s .wire .handshake .ack)
 
 -- "Resume loads the count anew, forgets the direction .. 60h ends with 16h."
 unfoldable pub resumed : Running → State → State
 resumed r s =
-    pick (eqb (s .registers .phase) 0x60)
+    pick (eqb (s .registers .descriptor .phase) 0x60)
     (endingWith 0x16 (setReported NoPhase (setAck (ackAfterResume s) (setRunning r (loaded s)))))
     (setAck (ackAfterResume s) (setRunning r (loaded s)))

@@ -1,15 +1,20 @@
 -- The state: the fresh one, and a setter for each field that a rule changes.
 -- Paper: "A fresh state is all zero, Disconnected, nothing pending."
+-- A part has few fields, and its own setters (`with..`) are the only places that list them; a field more is a change to its part here.
 use mathlib.Core.Bool.{Bool, false}
 use mathlib.Core.List.{List}
 use lib.ListN.{replicate}
 use Prim.Native.Nat.{ℕ}
 use Rattle.chip.specs.declared.State.{State}
 use Rattle.chip.specs.declared.Registers.{Registers}
+use Rattle.chip.specs.declared.Setup.{Setup}
+use Rattle.chip.specs.declared.Descriptor.{Descriptor}
 use Rattle.chip.specs.declared.Status.{Status}
 use Rattle.chip.specs.declared.Fifo.{Fifo}
 use Rattle.chip.specs.declared.Transfer.{Transfer}
 use Rattle.chip.specs.declared.Wire.{Wire}
+use Rattle.chip.specs.declared.Handshake.{Handshake}
+use Rattle.chip.specs.declared.Seen.{Seen}
 use Rattle.chip.specs.declared.Identity.{Identity}
 use Rattle.chip.specs.declared.Connection.{Connection}
 use Rattle.chip.specs.declared.Connection.the-variants.{Disconnected}
@@ -21,22 +26,14 @@ use Rattle.chip.specs.declared.Direction.{Direction}
 use Rattle.chip.specs.declared.Direction.the-variants.{Unfixed}
 use Rattle.chip.specs.declared.Noted.{Noted}
 use Rattle.chip.specs.declared.Noted.the-variants.{NoPhase}
-
--- the FIFO with nothing in it
-abbrev pub empty : Fifo
-empty = record { bytes = replicate 12 0; held = 0 }
+use Rattle.chip.specs.Fifo.{empty}
 
 -- registers 01 to 16h zero, register 00 as given
 abbrev pub cleared : ℕ → Registers
 cleared own =
     record {
-      own = own;
-      control = 0;
-      timeout = 0;
-      cdb = replicate 12 0;
-      lun = 0;
-      phase = 0;
-      synchronous = 0;
+      setup = record { own = own; control = 0; timeout = 0; synchronous = 0 };
+      descriptor = record { cdb = replicate 12 0; lun = 0; phase = 0 };
       count = 0;
       destination = 0;
       source = 0;
@@ -44,12 +41,18 @@ cleared own =
 
 -- no command runs, no direction is fixed
 abbrev pub nothingRuns : Transfer
-nothingRuns = record { running = Idle; direction = Unfixed; one = false }
+nothingRuns = record { running = Idle; direction = Unfixed; single = false }
 
 -- Disconnected, under an identity
 abbrev pub apart : Identity → Wire
 apart own =
-    record { connection = Disconnected; atn = false; ack = false; reported = NoPhase; last = NoPhase; identity = own; elapsed = 0 }
+    record {
+      connection = Disconnected;
+      handshake = record { atn = false; ack = false };
+      seen = record { reported = NoPhase; last = NoPhase };
+      identity = own;
+      elapsed = 0;
+    }
 
 abbrev pub fresh : State
 fresh =
@@ -61,102 +64,179 @@ fresh =
       wire = apart (record { number = 0 });
     }
 
--- the parts
+-- the parts of the state
 
 abbrev pub setRegisters : Registers → State → State
-setRegisters r s = record { registers = r; status = s .status; fifo = s .fifo; transfer = s .transfer; wire = s .wire }
+setRegisters x s = record { registers = x; status = s.status; fifo = s.fifo; transfer = s.transfer; wire = s.wire }
 
 abbrev pub setStatus : Status → State → State
-setStatus t s = record { registers = s .registers; status = t; fifo = s .fifo; transfer = s .transfer; wire = s .wire }
+setStatus x s = record { registers = s.registers; status = x; fifo = s.fifo; transfer = s.transfer; wire = s.wire }
 
 abbrev pub setFifo : Fifo → State → State
-setFifo q s = record { registers = s .registers; status = s .status; fifo = q; transfer = s .transfer; wire = s .wire }
+setFifo x s = record { registers = s.registers; status = s.status; fifo = x; transfer = s.transfer; wire = s.wire }
 
 abbrev pub setTransfer : Transfer → State → State
-setTransfer t s = record { registers = s .registers; status = s .status; fifo = s .fifo; transfer = t; wire = s .wire }
+setTransfer x s = record { registers = s.registers; status = s.status; fifo = s.fifo; transfer = x; wire = s.wire }
 
 abbrev pub setWire : Wire → State → State
-setWire w s = record { registers = s .registers; status = s .status; fifo = s .fifo; transfer = s .transfer; wire = w }
+setWire x s = record { registers = s.registers; status = s.status; fifo = s.fifo; transfer = s.transfer; wire = x }
 
--- the fields of registers
+-- the registers
 
-abbrev pub setOwn : ℕ → State → State
-setOwn x s = setRegisters (record { own = x; control = s .registers .control; timeout = s .registers .timeout; cdb = s .registers .cdb; lun = s .registers .lun; phase = s .registers .phase; synchronous = s .registers .synchronous; count = s .registers .count; destination = s .registers .destination; source = s .registers .source }) s
+abbrev withSetup : Setup → Registers → Registers
+withSetup x r = record { setup = x; descriptor = r.descriptor; count = r.count; destination = r.destination; source = r.source }
+
+abbrev withDescriptor : Descriptor → Registers → Registers
+withDescriptor x r = record { setup = r.setup; descriptor = x; count = r.count; destination = r.destination; source = r.source }
+
+abbrev pub withCount : ℕ → Registers → Registers
+withCount x r = record { setup = r.setup; descriptor = r.descriptor; count = x; destination = r.destination; source = r.source }
+
+abbrev pub withDestination : ℕ → Registers → Registers
+withDestination x r = record { setup = r.setup; descriptor = r.descriptor; count = r.count; destination = x; source = r.source }
+
+abbrev pub withSource : ℕ → Registers → Registers
+withSource x r = record { setup = r.setup; descriptor = r.descriptor; count = r.count; destination = r.destination; source = x }
+
+-- .. of the set-up
+
+abbrev pub withOwn : ℕ → Registers → Registers
+withOwn x r = withSetup (record { own = x; control = r.setup.control; timeout = r.setup.timeout; synchronous = r.setup.synchronous }) r
+
+abbrev pub withControl : ℕ → Registers → Registers
+withControl x r = withSetup (record { own = r.setup.own; control = x; timeout = r.setup.timeout; synchronous = r.setup.synchronous }) r
+
+abbrev pub withTimeout : ℕ → Registers → Registers
+withTimeout x r = withSetup (record { own = r.setup.own; control = r.setup.control; timeout = x; synchronous = r.setup.synchronous }) r
+
+abbrev pub withSynchronous : ℕ → Registers → Registers
+withSynchronous x r = withSetup (record { own = r.setup.own; control = r.setup.control; timeout = r.setup.timeout; synchronous = x }) r
+
+-- .. of the descriptor
+
+abbrev pub withCdb : List ℕ → Registers → Registers
+withCdb x r = withDescriptor (record { cdb = x; lun = r.descriptor.lun; phase = r.descriptor.phase }) r
+
+abbrev pub withLun : ℕ → Registers → Registers
+withLun x r = withDescriptor (record { cdb = r.descriptor.cdb; lun = x; phase = r.descriptor.phase }) r
+
+abbrev pub withPhase : ℕ → Registers → Registers
+withPhase x r = withDescriptor (record { cdb = r.descriptor.cdb; lun = r.descriptor.lun; phase = x }) r
 
 abbrev pub setControl : ℕ → State → State
-setControl x s = setRegisters (record { own = s .registers .own; control = x; timeout = s .registers .timeout; cdb = s .registers .cdb; lun = s .registers .lun; phase = s .registers .phase; synchronous = s .registers .synchronous; count = s .registers .count; destination = s .registers .destination; source = s .registers .source }) s
+setControl x s = setRegisters (withControl x s.registers) s
 
 abbrev pub setTimeout : ℕ → State → State
-setTimeout x s = setRegisters (record { own = s .registers .own; control = s .registers .control; timeout = x; cdb = s .registers .cdb; lun = s .registers .lun; phase = s .registers .phase; synchronous = s .registers .synchronous; count = s .registers .count; destination = s .registers .destination; source = s .registers .source }) s
+setTimeout x s = setRegisters (withTimeout x s.registers) s
 
 abbrev pub setCdb : List ℕ → State → State
-setCdb x s = setRegisters (record { own = s .registers .own; control = s .registers .control; timeout = s .registers .timeout; cdb = x; lun = s .registers .lun; phase = s .registers .phase; synchronous = s .registers .synchronous; count = s .registers .count; destination = s .registers .destination; source = s .registers .source }) s
+setCdb x s = setRegisters (withCdb x s.registers) s
 
 abbrev pub setLun : ℕ → State → State
-setLun x s = setRegisters (record { own = s .registers .own; control = s .registers .control; timeout = s .registers .timeout; cdb = s .registers .cdb; lun = x; phase = s .registers .phase; synchronous = s .registers .synchronous; count = s .registers .count; destination = s .registers .destination; source = s .registers .source }) s
+setLun x s = setRegisters (withLun x s.registers) s
 
 abbrev pub setPhase : ℕ → State → State
-setPhase x s = setRegisters (record { own = s .registers .own; control = s .registers .control; timeout = s .registers .timeout; cdb = s .registers .cdb; lun = s .registers .lun; phase = x; synchronous = s .registers .synchronous; count = s .registers .count; destination = s .registers .destination; source = s .registers .source }) s
-
-abbrev pub setSynchronous : ℕ → State → State
-setSynchronous x s = setRegisters (record { own = s .registers .own; control = s .registers .control; timeout = s .registers .timeout; cdb = s .registers .cdb; lun = s .registers .lun; phase = s .registers .phase; synchronous = x; count = s .registers .count; destination = s .registers .destination; source = s .registers .source }) s
+setPhase x s = setRegisters (withPhase x s.registers) s
 
 abbrev pub setCount : ℕ → State → State
-setCount x s = setRegisters (record { own = s .registers .own; control = s .registers .control; timeout = s .registers .timeout; cdb = s .registers .cdb; lun = s .registers .lun; phase = s .registers .phase; synchronous = s .registers .synchronous; count = x; destination = s .registers .destination; source = s .registers .source }) s
-
-abbrev pub setDestination : ℕ → State → State
-setDestination x s = setRegisters (record { own = s .registers .own; control = s .registers .control; timeout = s .registers .timeout; cdb = s .registers .cdb; lun = s .registers .lun; phase = s .registers .phase; synchronous = s .registers .synchronous; count = s .registers .count; destination = x; source = s .registers .source }) s
+setCount x s = setRegisters (withCount x s.registers) s
 
 abbrev pub setSource : ℕ → State → State
-setSource x s = setRegisters (record { own = s .registers .own; control = s .registers .control; timeout = s .registers .timeout; cdb = s .registers .cdb; lun = s .registers .lun; phase = s .registers .phase; synchronous = s .registers .synchronous; count = s .registers .count; destination = s .registers .destination; source = x }) s
+setSource x s = setRegisters (withSource x s.registers) s
 
--- the fields of status
+-- the status
+
+abbrev withPointer : ℕ → Status → Status
+withPointer x t = record { pointer = x; code = t.code; command = t.command; lci = t.lci; pe = t.pe; pending = t.pending }
+
+abbrev withCode : ℕ → Status → Status
+withCode x t = record { pointer = t.pointer; code = x; command = t.command; lci = t.lci; pe = t.pe; pending = t.pending }
+
+abbrev withCommand : ℕ → Status → Status
+withCommand x t = record { pointer = t.pointer; code = t.code; command = x; lci = t.lci; pe = t.pe; pending = t.pending }
+
+abbrev withLci : Bool → Status → Status
+withLci x t = record { pointer = t.pointer; code = t.code; command = t.command; lci = x; pe = t.pe; pending = t.pending }
+
+abbrev withPe : Bool → Status → Status
+withPe x t = record { pointer = t.pointer; code = t.code; command = t.command; lci = t.lci; pe = x; pending = t.pending }
+
+abbrev withPending : Pending → Status → Status
+withPending x t = record { pointer = t.pointer; code = t.code; command = t.command; lci = t.lci; pe = t.pe; pending = x }
 
 abbrev pub setPointer : ℕ → State → State
-setPointer x s = setStatus (record { pointer = x; code = s .status .code; command = s .status .command; lci = s .status .lci; pe = s .status .pe; pending = s .status .pending }) s
+setPointer x s = setStatus (withPointer x s.status) s
 
 abbrev pub setCode : ℕ → State → State
-setCode x s = setStatus (record { pointer = s .status .pointer; code = x; command = s .status .command; lci = s .status .lci; pe = s .status .pe; pending = s .status .pending }) s
+setCode x s = setStatus (withCode x s.status) s
 
 abbrev pub setCommand : ℕ → State → State
-setCommand x s = setStatus (record { pointer = s .status .pointer; code = s .status .code; command = x; lci = s .status .lci; pe = s .status .pe; pending = s .status .pending }) s
+setCommand x s = setStatus (withCommand x s.status) s
 
 abbrev pub setLci : Bool → State → State
-setLci x s = setStatus (record { pointer = s .status .pointer; code = s .status .code; command = s .status .command; lci = x; pe = s .status .pe; pending = s .status .pending }) s
+setLci x s = setStatus (withLci x s.status) s
 
 abbrev pub setPe : Bool → State → State
-setPe x s = setStatus (record { pointer = s .status .pointer; code = s .status .code; command = s .status .command; lci = s .status .lci; pe = x; pending = s .status .pending }) s
+setPe x s = setStatus (withPe x s.status) s
 
 abbrev pub setPending : Pending → State → State
-setPending x s = setStatus (record { pointer = s .status .pointer; code = s .status .code; command = s .status .command; lci = s .status .lci; pe = s .status .pe; pending = x }) s
+setPending x s = setStatus (withPending x s.status) s
 
--- the fields of transfer
+-- the transfer
+
+abbrev withRunning : Running → Transfer → Transfer
+withRunning x t = record { running = x; direction = t.direction; single = t.single }
+
+abbrev withDirection : Direction → Transfer → Transfer
+withDirection x t = record { running = t.running; direction = x; single = t.single }
+
+abbrev withSingle : Bool → Transfer → Transfer
+withSingle x t = record { running = t.running; direction = t.direction; single = x }
 
 abbrev pub setRunning : Running → State → State
-setRunning x s = setTransfer (record { running = x; direction = s .transfer .direction; one = s .transfer .one }) s
+setRunning x s = setTransfer (withRunning x s.transfer) s
 
 abbrev pub setDirection : Direction → State → State
-setDirection x s = setTransfer (record { running = s .transfer .running; direction = x; one = s .transfer .one }) s
+setDirection x s = setTransfer (withDirection x s.transfer) s
 
-abbrev pub setOne : Bool → State → State
-setOne x s = setTransfer (record { running = s .transfer .running; direction = s .transfer .direction; one = x }) s
+abbrev pub setSingle : Bool → State → State
+setSingle x s = setTransfer (withSingle x s.transfer) s
 
--- the fields of wire
+-- the wire
+
+abbrev withConnection : Connection → Wire → Wire
+withConnection x w = record { connection = x; handshake = w.handshake; seen = w.seen; identity = w.identity; elapsed = w.elapsed }
+
+abbrev withHandshake : Handshake → Wire → Wire
+withHandshake x w = record { connection = w.connection; handshake = x; seen = w.seen; identity = w.identity; elapsed = w.elapsed }
+
+abbrev withSeen : Seen → Wire → Wire
+withSeen x w = record { connection = w.connection; handshake = w.handshake; seen = x; identity = w.identity; elapsed = w.elapsed }
+
+abbrev withElapsed : ℕ → Wire → Wire
+withElapsed x w = record { connection = w.connection; handshake = w.handshake; seen = w.seen; identity = w.identity; elapsed = x }
 
 abbrev pub setConnection : Connection → State → State
-setConnection x s = setWire (record { connection = x; atn = s .wire .atn; ack = s .wire .ack; reported = s .wire .reported; last = s .wire .last; identity = s .wire .identity; elapsed = s .wire .elapsed }) s
-
-abbrev pub setAtn : Bool → State → State
-setAtn x s = setWire (record { connection = s .wire .connection; atn = x; ack = s .wire .ack; reported = s .wire .reported; last = s .wire .last; identity = s .wire .identity; elapsed = s .wire .elapsed }) s
-
-abbrev pub setAck : Bool → State → State
-setAck x s = setWire (record { connection = s .wire .connection; atn = s .wire .atn; ack = x; reported = s .wire .reported; last = s .wire .last; identity = s .wire .identity; elapsed = s .wire .elapsed }) s
-
-abbrev pub setReported : Noted → State → State
-setReported x s = setWire (record { connection = s .wire .connection; atn = s .wire .atn; ack = s .wire .ack; reported = x; last = s .wire .last; identity = s .wire .identity; elapsed = s .wire .elapsed }) s
-
-abbrev pub setLast : Noted → State → State
-setLast x s = setWire (record { connection = s .wire .connection; atn = s .wire .atn; ack = s .wire .ack; reported = s .wire .reported; last = x; identity = s .wire .identity; elapsed = s .wire .elapsed }) s
+setConnection x s = setWire (withConnection x s.wire) s
 
 abbrev pub setElapsed : ℕ → State → State
-setElapsed x s = setWire (record { connection = s .wire .connection; atn = s .wire .atn; ack = s .wire .ack; reported = s .wire .reported; last = s .wire .last; identity = s .wire .identity; elapsed = x }) s
+setElapsed x s = setWire (withElapsed x s.wire) s
+
+-- .. the lines that we hold
+
+abbrev pub setAtn : Bool → State → State
+setAtn x s = setWire (withHandshake (record { atn = x; ack = s.wire.handshake.ack }) s.wire) s
+
+abbrev pub setAck : Bool → State → State
+setAck x s = setWire (withHandshake (record { atn = s.wire.handshake.atn; ack = x }) s.wire) s
+
+-- .. the phases kept in mind
+
+abbrev pub setSeen : Seen → State → State
+setSeen x s = setWire (withSeen x s.wire) s
+
+abbrev pub setReported : Noted → State → State
+setReported x s = setSeen (record { reported = x; last = s.wire.seen.last }) s
+
+abbrev pub setLast : Noted → State → State
+setLast x s = setSeen (record { reported = s.wire.seen.reported; last = x }) s

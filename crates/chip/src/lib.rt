@@ -37,8 +37,8 @@ pub enum Running {
     Idle,
     SelectWithAtn,
     SelectWithoutAtn,
-    TransferWithAtn,
-    TransferWithoutAtn,
+    SelectAndTransferWithAtn,
+    SelectAndTransferWithoutAtn,
     TransferInfo,
 }
 
@@ -76,16 +76,25 @@ pub enum Noted {
     Was(Phase),
 }
 
-// Registers 00 to 16h: Own ID, Control, Timeout Period, CDB 1 to 12 (03 to 0Eh), Target LUN (0Fh), Command Phase (10h),
-// Synchronous Transfer (11h), Transfer Count (12h to 14h, high byte first), Destination ID (15h), Source ID (16h).
-pub struct Registers {
+// What a driver sets up: Own ID (00), Control (01), Timeout Period (02), Synchronous Transfer (11h).
+pub struct Setup {
     pub own: u8,
     pub control: u8,
     pub timeout: u8,
+    pub synchronous: u8,
+}
+
+// What a Select-And-Transfer works through: CDB 1 to 12 (03 to 0Eh), Target LUN (0Fh), Command Phase (10h).
+pub struct Descriptor {
     pub cdb: [u8; 12],
     pub lun: u8,
     pub phase: u8,
-    pub synchronous: u8,
+}
+
+// Registers 00 to 16h: the two above, Transfer Count (12h to 14h, high byte first), Destination ID (15h), Source ID (16h).
+pub struct Registers {
+    pub setup: Setup,
+    pub descriptor: Descriptor,
     pub count: u32,
     pub destination: u8,
     pub source: u8,
@@ -111,17 +120,26 @@ pub struct Fifo {
 pub struct Transfer {
     pub running: Running,
     pub direction: Direction,
-    pub one: bool,
+    pub single: bool,
 }
 
-// The bus: connection, ATN, held ACK, the reported phase, the phase of the last Request answered Done or Reported since
-// connection, our identity, and the units of time that have added up while selecting.
-pub struct Wire {
-    pub connection: Connection,
+// The two lines that we hold on the bus: ATN, and ACK where a byte is not let go.
+pub struct Handshake {
     pub atn: bool,
     pub ack: bool,
+}
+
+// The phases kept in mind: the reported one, and that of the last Request answered Done or Reported since connection.
+pub struct Seen {
     pub reported: Noted,
     pub last: Noted,
+}
+
+// The bus: the connection, the lines and phases above, our identity, and the units of time that have added up while selecting.
+pub struct Wire {
+    pub connection: Connection,
+    pub handshake: Handshake,
+    pub seen: Seen,
     pub identity: Identity,
     pub elapsed: u8,
 }

@@ -2,16 +2,17 @@
 ghost use mathlib.Core.Bool.{not};
 ghost use mathlib.Core.Path.{_≡_};
 ghost use Rattle.chip.specs.Choice.{both, either, pick};
-ghost use Rattle.chip.specs.Commands.{accepted, isConnected, isPlace, isReady, isSome, isTwo};
-ghost use Rattle.chip.specs.Interrupts.{busy, ends};
+ghost use Rattle.chip.specs.Commands.{accepted, isPlace, isReady, isSome, isTwo};
+ghost use Rattle.chip.specs.Connections.{isConnected};
+ghost use Rattle.chip.specs.Interrupts.{busy, inEnding};
 ghost use Rattle.chip.specs.SelectAndTransfer.{hasSize, isResumable};
 use crate::table;
 use chip::Entry;
 use chip::Noted;
 use chip::State;
-use combination::resume;
-use combination::stage;
-use endings::interrupts;
+use select_and_transfer::resume;
+use select_and_transfer::stage;
+use state::connections;
 use state::get;
 use state::set;
 
@@ -26,10 +27,10 @@ fn is_some(n: Noted) -> bool
 
 // Abort.
 fn is_abortable(s: State) -> bool
-    ensures { λ r. ⌜ r ≡ both (busy s) (not (ends s)) ⌝ }
+    ensures { λ r. ⌜ r ≡ both (busy s) (not (inEnding s)) ⌝ }
 {
     if interrupts::busy(s) {
-        if interrupts::ends(s) {
+        if interrupts::in_ending(s) {
             return false;
         }
         return true;
@@ -37,18 +38,11 @@ fn is_abortable(s: State) -> bool
     false
 }
 
-// Connected: the command finds a Target on the bus.
-pub fn is_on_the_bus(s: State) -> bool
-    ensures { λ r. ⌜ r ≡ isConnected (s .wire .connection) ⌝ }
-{
-    table::is_connected(get::connection(s))
-}
-
 // Select-And-Transfer.
 fn is_transferable(s: State) -> bool
     ensures { λ r. ⌜ r ≡ pick (isConnected (s .wire .connection)) (isResumable s) (hasSize s) ⌝ }
 {
-    if is_on_the_bus(s) {
+    if connections::is_connected(s) {
         return resume::is_resumable(s);
     }
     stage::has_size(s)
@@ -56,27 +50,27 @@ fn is_transferable(s: State) -> bool
 
 // Transfer Info.
 fn is_informable(s: State) -> bool
-    ensures { λ r. ⌜ r ≡ both (not (s .wire .ack)) (isSome (s .wire .reported)) ⌝ }
+    ensures { λ r. ⌜ r ≡ both (not (s .wire .handshake .ack)) (isSome (s .wire .seen .reported)) ⌝ }
 {
-    if s.wire.ack {
+    if s.wire.handshake.ack {
         return false;
     }
     is_some(get::reported(s))
 }
 
-fn is_ready(c: u8, s: State) -> bool
-    ensures { λ r. ⌜ r ≡ isReady c s ⌝ }
+fn is_ready(n: u8, s: State) -> bool
+    ensures { λ r. ⌜ r ≡ isReady n s ⌝ }
 {
-    if c == 0x01 {
+    if n == 0x01 {
         return is_abortable(s);
     }
-    if c == 0x08 {
+    if n == 0x08 {
         return is_transferable(s);
     }
-    if c == 0x09 {
+    if n == 0x09 {
         return is_transferable(s);
     }
-    if c == 0x20 {
+    if n == 0x20 {
         return is_informable(s);
     }
     true
@@ -86,15 +80,15 @@ fn is_in_place(e: Entry, s: State) -> bool
     ensures { λ r. ⌜ r ≡ isPlace (e .place) (s .wire .connection) ⌝ }
 {
     let place = e.place;
-    table::is_place(place, get::connection(s))
+    table::is_place(place, s)
 }
 
 // e is the table's entry for code c.
-pub fn is_valid(e: Entry, c: u8, s: State) -> bool
-    ensures { λ r. ⌜ r ≡ both (isPlace (e .place) (s .wire .connection)) (isReady c s) ⌝ }
+pub fn is_valid(e: Entry, n: u8, s: State) -> bool
+    ensures { λ r. ⌜ r ≡ both (isPlace (e .place) (s .wire .connection)) (isReady n s) ⌝ }
 {
     if is_in_place(e, s) {
-        return is_ready(c, s);
+        return is_ready(n, s);
     }
     false
 }
@@ -107,23 +101,23 @@ fn is_level_two(e: Entry) -> bool
 }
 
 // Level II, or not valid now.
-fn is_out_of_turn(e: Entry, c: u8, s: State) -> bool
-    ensures { λ r. ⌜ r ≡ either (isTwo (e .level)) (not (both (isPlace (e .place) (s .wire .connection)) (isReady c s))) ⌝ }
+fn is_out_of_turn(e: Entry, n: u8, s: State) -> bool
+    ensures { λ r. ⌜ r ≡ either (isTwo (e .level)) (not (both (isPlace (e .place) (s .wire .connection)) (isReady n s))) ⌝ }
 {
     if is_level_two(e) {
         return true;
     }
-    if is_valid(e, c, s) {
+    if is_valid(e, n, s) {
         return false;
     }
     true
 }
 
-pub fn is_refused_busy(e: Entry, c: u8, s: State) -> bool
-    ensures { λ r. ⌜ r ≡ both (busy s) (either (isTwo (e .level)) (not (both (isPlace (e .place) (s .wire .connection)) (isReady c s)))) ⌝ }
+pub fn is_refused_busy(e: Entry, n: u8, s: State) -> bool
+    ensures { λ r. ⌜ r ≡ both (busy s) (either (isTwo (e .level)) (not (both (isPlace (e .place) (s .wire .connection)) (isReady n s)))) ⌝ }
 {
     if interrupts::busy(s) {
-        return is_out_of_turn(e, c, s);
+        return is_out_of_turn(e, n, s);
     }
     false
 }

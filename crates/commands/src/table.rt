@@ -1,10 +1,11 @@
 // The table of 34 commands, codes 00 to 21h, each with its level and the connections in which it is valid.
 ghost use mathlib.Core.Path.{_≡_};
-ghost use Rattle.chip.specs.Commands.{entryOf, isConnected, isDisconnected, isPlace, isTwo, isWaiting};
-use chip::Connection;
+ghost use Rattle.chip.specs.Commands.{entryOf, isPlace, isTwo};
 use chip::Entry;
 use chip::Level;
 use chip::Place;
+use chip::State;
+use state::connections;
 
 const TABLE: [Entry; 34] = [
     // 00 Reset
@@ -179,11 +180,11 @@ const TABLE: [Entry; 34] = [
     },
 ];
 
-pub fn entry_of(c: u8) -> Entry
-    ensures { λ r. ⌜ r ≡ entryOf c ⌝ }
+pub fn entry_of(n: u8) -> Entry
+    ensures { λ r. ⌜ r ≡ entryOf n ⌝ }
 {
-    if c < 34 {
-        let at = c as usize;
+    if n < 34 {
+        let at = n as usize;
         return TABLE[at];
     }
     Entry {
@@ -202,67 +203,34 @@ pub fn is_two(l: Level) -> bool
     }
 }
 
-pub fn is_connected(c: Connection) -> bool
-    ensures { λ r. ⌜ r ≡ isConnected c ⌝ }
+fn is_connected_or_waiting(s: State) -> bool
+    ensures { λ r. ⌜ r ≡ isPlace Place.WhenConnectedOrWaiting (s .wire .connection) ⌝ }
 {
-    match c {
-        Connection::Disconnected => false,
-        Connection::Selecting => false,
-        Connection::Waiting => false,
-        Connection::Connected => true,
-    }
-}
-
-fn is_disconnected(c: Connection) -> bool
-    ensures { λ r. ⌜ r ≡ isDisconnected c ⌝ }
-{
-    match c {
-        Connection::Disconnected => true,
-        Connection::Selecting => false,
-        Connection::Waiting => false,
-        Connection::Connected => false,
-    }
-}
-
-fn is_waiting(c: Connection) -> bool
-    ensures { λ r. ⌜ r ≡ isWaiting c ⌝ }
-{
-    match c {
-        Connection::Disconnected => false,
-        Connection::Selecting => false,
-        Connection::Waiting => true,
-        Connection::Connected => false,
-    }
-}
-
-fn is_connected_or_waiting(c: Connection) -> bool
-    ensures { λ r. ⌜ r ≡ isPlace Place.WhenConnectedOrWaiting c ⌝ }
-{
-    if is_connected(c) {
+    if connections::is_connected(s) {
         return true;
     }
-    is_waiting(c)
+    connections::is_waiting(s)
 }
 
-fn is_connected_or_disconnected(c: Connection) -> bool
-    ensures { λ r. ⌜ r ≡ isPlace Place.WhenConnectedOrDisconnected c ⌝ }
+fn is_connected_or_disconnected(s: State) -> bool
+    ensures { λ r. ⌜ r ≡ isPlace Place.WhenConnectedOrDisconnected (s .wire .connection) ⌝ }
 {
-    if is_connected(c) {
+    if connections::is_connected(s) {
         return true;
     }
-    is_disconnected(c)
+    connections::is_disconnected(s)
 }
 
 // The connection is one in which the command is valid.
-pub fn is_place(p: Place, c: Connection) -> bool
-    ensures { λ r. ⌜ r ≡ isPlace p c ⌝ }
+pub fn is_place(p: Place, s: State) -> bool
+    ensures { λ r. ⌜ r ≡ isPlace p (s .wire .connection) ⌝ }
 {
     match p {
         Place::Nowhere => false,
         Place::Anywhere => true,
-        Place::WhenDisconnected => is_disconnected(c),
-        Place::WhenConnected => is_connected(c),
-        Place::WhenConnectedOrWaiting => is_connected_or_waiting(c),
-        Place::WhenConnectedOrDisconnected => is_connected_or_disconnected(c),
+        Place::WhenDisconnected => connections::is_disconnected(s),
+        Place::WhenConnected => connections::is_connected(s),
+        Place::WhenConnectedOrWaiting => is_connected_or_waiting(s),
+        Place::WhenConnectedOrDisconnected => is_connected_or_disconnected(s),
     }
 }

@@ -9,15 +9,15 @@ use lib.Dec.{eqb, ltb}
 use lib.ListN.{length}
 use Rattle.chip.proofs.Cases.{both-first}
 use Rattle.chip.specs.Choice.{pick, both}
-use Rattle.chip.specs.Calls.{Call, Outcome, isGood, isSet, carried, plain, moved, block}
+use Rattle.chip.specs.Calls.{Call, isGood, isSet, carried, plain, moved, block}
 use Rattle.chip.specs.Registers.{Moved, blockRead, blockWritten}
 use Rattle.chip.specs.declared.Answer.the-variants.{Done}
-use Rattle.chip.specs.Entries.{Left, result, written, refused, entered, lineBits, linesEntered, freshEntered}
+use Rattle.chip.specs.Entries.{AfterEntry, result, written, refused, entered, lineBits, linesEntered, freshEntered}
 use Rattle.chip.specs.State.{fresh}
-use Rattle.chip.specs.Image.{imageOf, stateOf, isImage}
+use Rattle.chip.specs.Image.{imageOf, stateOf, isImage, imageLength}
 use Rattle.chip.specs.declared.Reply.{Reply}
 use Rattle.chip.specs.declared.State.{State}
-use Rattle.controller.specs.Made.{Made}
+use Rattle.controller.specs.Returns.{Returns}
 use Rattle.image.specs.Read.{readOf}
 use Rattle.image.specs.declared.Reading.{Reading}
 
@@ -39,7 +39,7 @@ state-read l r e h =
     let i : isImage l ≡ true = image-read l r e h in
     ap (λ (x : Reading). x .state) e ∙ rw i
 
-pub long-enough : (l : List ℕ) → isImage l ≡ true → eqb (length l) 53 ≡ true
+pub long-enough : (l : List ℕ) → isImage l ≡ true → eqb (length l) imageLength ≡ true
 unfolding isImage
 long-enough l h = both-first _ _ h
 
@@ -54,29 +54,29 @@ taken c l i g = rw (i, g)
 
 pub served : (c : Call) (l : List ℕ) (r : Reading) (p : Reply) (n : ℕ) (after : List ℕ) → r ≡ readOf l → r .ok ≡ true
     → isGood c ≡ true → carried c (r .state) ≡ plain p → n ≡ result (p .answer)
-    → after ≡ pick (eqb (length l) 53) (imageOf (p .state)) l → (n ≡ entered c l .result) × (after ≡ entered c l .image)
+    → after ≡ pick (eqb (length l) imageLength) (imageOf (p .state)) l → (n ≡ entered c l .result) × (after ≡ entered c l .image)
 unfolding pick
 served c l r p n after e h g k a b =
     let i : isImage l ≡ true = image-read l r e h in
     let w : entered c l ≡ written (plain p) =
     taken c l i g ∙ ap (λ (s : State). written (carried c s)) (sym (state-read l r e h)) ∙ ap written k in (
-      a ∙ sym (ap (λ (x : Left). x .result) w),
-      b ∙ (let long : eqb (length l) 53 ≡ true = long-enough l i in rw long) ∙ sym (ap (λ (x : Left). x .image) w),
+      a ∙ sym (ap (λ (x : AfterEntry). x .result) w),
+      b ∙ (let long : eqb (length l) imageLength ≡ true = long-enough l i in rw long) ∙ sym (ap (λ (x : AfterEntry). x .image) w),
     )
 
 -- an image that stands, and a call made on it
 pub entered-made : (c : Call) (l : List ℕ) (p : Reply) (n : ℕ) (after : List ℕ) → isImage l ≡ true → isGood c ≡ true
-    → carried c (stateOf l) ≡ plain p → Made p n after → (n ≡ entered c l .result) × (after ≡ entered c l .image)
+    → carried c (stateOf l) ≡ plain p → Returns p n after → (n ≡ entered c l .result) × (after ≡ entered c l .image)
 entered-made c l p n after i g k m =
     let w : entered c l ≡ written (plain p) = taken c l i g ∙ ap written k in
-    (m .number ∙ sym (ap (λ (x : Left). x .result) w), m .image ∙ sym (ap (λ (x : Left). x .image) w))
+    (m .number ∙ sym (ap (λ (x : AfterEntry). x .result) w), m .image ∙ sym (ap (λ (x : AfterEntry). x .image) w))
 
 -- a call made on the state, and the whole image written
 pub finished : (l : List ℕ) (p : Reply) (n : ℕ) (after : List ℕ) → isImage l ≡ true → n ≡ result (p .answer)
-    → after ≡ pick (eqb (length l) 53) (imageOf (p .state)) l → Made p n after
+    → after ≡ pick (eqb (length l) imageLength) (imageOf (p .state)) l → Returns p n after
 unfolding pick
 finished l p n after i a b =
-    let long : eqb (length l) 53 ≡ true = long-enough l i in
+    let long : eqb (length l) imageLength ≡ true = long-enough l i in
     record { number = a; image = b ∙ rw long }
 
 no-image : (c : Call) (l : List ℕ) → isImage l ≡ false → entered c l ≡ refused c l
@@ -88,7 +88,7 @@ unfolding entered pick
 no-operand c l g = rw (g, both-false (isImage l))
 
 of-refused : (c : Call) (l : List ℕ) → entered c l ≡ refused c l → (3 ≡ entered c l .result) × (l ≡ entered c l .image)
-of-refused c l w = (sym (ap (λ (x : Left). x .result) w), sym (ap (λ (x : Left). x .image) w))
+of-refused c l w = (sym (ap (λ (x : AfterEntry). x .result) w), sym (ap (λ (x : AfterEntry). x .image) w))
 
 pub refused-image : (c : Call) (l : List ℕ) (r : Reading) → r ≡ readOf l → r .ok ≡ false
     → (3 ≡ entered c l .result) × (l ≡ entered c l .image)
@@ -115,7 +115,7 @@ and-then-false a b q = rw q (both-false a)
 pub block-served : (mark : ℕ) (d l : List ℕ) (r : Reading) (v : Moved) (k : ℕ) (t : State) (n : ℕ) (after d′ : List ℕ)
     → r ≡ readOf l → r .ok ≡ true → ltb mark 2 ≡ true
     → pick (isSet mark) (blockWritten d (r .state)) (blockRead d (r .state)) ≡ v → k ≡ v .number → t ≡ v .state
-    → n ≡ result (Done k) → after ≡ pick (eqb (length l) 53) (imageOf t) l → d′ ≡ v .bytes
+    → n ≡ result (Done k) → after ≡ pick (eqb (length l) imageLength) (imageOf t) l → d′ ≡ v .bytes
     → (n ≡ entered (block mark d) l .result) × (after ≡ entered (block mark d) l .image) × (d′ ≡ entered (block mark d) l .lent)
 unfolding pick isGood carried
 block-served mark d l r v k t n after d′ e h g q kn ts a b z =
@@ -123,24 +123,24 @@ block-served mark d l r v k t n after d′ e h g q kn ts a b z =
     let w : entered (block mark d) l ≡ written (moved v) =
     taken (block mark d) l i g ∙ ap (λ (s : State). written (carried (block mark d) s)) (sym (state-read l r e h))
     ∙ ap (λ (x : Moved). written (moved x)) q in (
-      a ∙ ap (λ (x : ℕ). result (Done x)) kn ∙ sym (ap (λ (x : Left). x .result) w),
-      b ∙ (let long : eqb (length l) 53 ≡ true = long-enough l i in rw long) ∙ ap imageOf ts
-          ∙ sym (ap (λ (x : Left). x .image) w),
-      z ∙ sym (ap (λ (x : Left). x .lent) w),
+      a ∙ ap (λ (x : ℕ). result (Done x)) kn ∙ sym (ap (λ (x : AfterEntry). x .result) w),
+      b ∙ (let long : eqb (length l) imageLength ≡ true = long-enough l i in rw long) ∙ ap imageOf ts
+          ∙ sym (ap (λ (x : AfterEntry). x .image) w),
+      z ∙ sym (ap (λ (x : AfterEntry). x .lent) w),
     )
 
 pub block-refused-image : (mark : ℕ) (d l : List ℕ) (r : Reading) → r ≡ readOf l → r .ok ≡ false
     → (3 ≡ entered (block mark d) l .result) × (l ≡ entered (block mark d) l .image) × (d ≡ entered (block mark d) l .lent)
 block-refused-image mark d l r e h =
     let w : entered (block mark d) l ≡ refused (block mark d) l = no-image (block mark d) l (sym (ok-is l r e) ∙ h) in
-    (sym (ap (λ (x : Left). x .result) w), sym (ap (λ (x : Left). x .image) w), sym (ap (λ (x : Left). x .lent) w))
+    (sym (ap (λ (x : AfterEntry). x .result) w), sym (ap (λ (x : AfterEntry). x .image) w), sym (ap (λ (x : AfterEntry). x .lent) w))
 
 pub block-refused-mark : (mark : ℕ) (d l : List ℕ) → ltb mark 2 ≡ false
     → (3 ≡ entered (block mark d) l .result) × (l ≡ entered (block mark d) l .image) × (d ≡ entered (block mark d) l .lent)
 unfolding isGood
 block-refused-mark mark d l g =
     let w : entered (block mark d) l ≡ refused (block mark d) l = no-operand (block mark d) l g in
-    (sym (ap (λ (x : Left). x .result) w), sym (ap (λ (x : Left). x .image) w), sym (ap (λ (x : Left). x .lent) w))
+    (sym (ap (λ (x : AfterEntry). x .result) w), sym (ap (λ (x : AfterEntry). x .image) w), sym (ap (λ (x : AfterEntry). x .lent) w))
 
 -- what a board drives on the bus
 pub lines-read : (l : List ℕ) (r : Reading) → r ≡ readOf l → r .ok ≡ true → 256 * lineBits (r .state) ≡ linesEntered l
@@ -164,17 +164,17 @@ unfolding pick
 pick-false t a b e = rw e
 
 -- the fresh image
-pub fresh-served : (l after : List ℕ) (t : State) → eqb (length l) 53 ≡ true → t ≡ fresh
-    → after ≡ pick (eqb (length l) 53) (imageOf t) l → (0 ≡ freshEntered l .result) × (after ≡ freshEntered l .image)
+pub fresh-served : (l after : List ℕ) (t : State) → eqb (length l) imageLength ≡ true → t ≡ fresh
+    → after ≡ pick (eqb (length l) imageLength) (imageOf t) l → (0 ≡ freshEntered l .result) × (after ≡ freshEntered l .image)
 unfolding freshEntered
 fresh-served l after t long e a =
     let w : freshEntered l ≡ record { result = 0; image = imageOf fresh; lent = [] } = pick-true _ _ _ long in (
-      sym (ap (λ (x : Left). x .result) w),
-      a ∙ pick-true _ _ _ long ∙ ap imageOf e ∙ sym (ap (λ (x : Left). x .image) w),
+      sym (ap (λ (x : AfterEntry). x .result) w),
+      a ∙ pick-true _ _ _ long ∙ ap imageOf e ∙ sym (ap (λ (x : AfterEntry). x .image) w),
     )
 
-pub fresh-refused : (l : List ℕ) → eqb (length l) 53 ≡ false → (3 ≡ freshEntered l .result) × (l ≡ freshEntered l .image)
+pub fresh-refused : (l : List ℕ) → eqb (length l) imageLength ≡ false → (3 ≡ freshEntered l .result) × (l ≡ freshEntered l .image)
 unfolding freshEntered
 fresh-refused l long =
     let w : freshEntered l ≡ record { result = 3; image = l; lent = [] } = pick-false _ _ _ long in
-    (sym (ap (λ (x : Left). x .result) w), sym (ap (λ (x : Left). x .image) w))
+    (sym (ap (λ (x : AfterEntry). x .result) w), sym (ap (λ (x : AfterEntry). x .image) w))

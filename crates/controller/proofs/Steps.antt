@@ -1,78 +1,66 @@
--- What the stores of each quick call leave: the call's own reply, by the laws of room quick. The bytes l stand; t is their state as
--- the code reads it, and `after..` are the bytes after each store.
+-- What the stores of each call served in place (in_place.rt) leave: the call's own reply, by chip's proofs/Moves.antt. The bytes l are
+-- an image; t is their state as the code reads it, and `after..` are the bytes after each store.
 use mathlib.Core.Path.{_≡_, refl, ap, sym, _∙_}
 use mathlib.Core.Bool.{Bool, true, false}
-use mathlib.Core.List.{List, [], _∷_, _++_}
-use Prim.Native.Nat.{ℕ, _+_, _-_, _*_, _/_, _%_, _<_, _≤_}
+use mathlib.Core.List.{List, [], _++_}
+use Prim.Native.Nat.{ℕ, _+_, _-_, _*_, _%_, _<_, _≤_}
 use native.Mathlib.Nat.{zero-add}
 use native.Mathlib.Omega.{arith}
 use lib.Dec.{eqb, ltb}
-use lib.ListN.{length, getD, set, drop, length-set, length-append, length-drop}
-use lib.Seq.{sets}
+use lib.ListN.{length, getD, set, take, drop, length-set}
 use borrow.Author.Tests.{eq-eqb, ne-eqb, lt-ltb, eqb-true}
 use Rattle.chip.specs.Choice.{pick, both}
 use Rattle.chip.specs.Calls.{isSet}
 use Rattle.chip.specs.declared.State.{State}
 use Rattle.chip.specs.declared.Fifo.{Fifo}
 use Rattle.chip.specs.declared.Reply.{Reply}
-use Rattle.chip.specs.declared.Answer.the-variants.{Done}
 use Rattle.chip.specs.declared.Phase.the-variants.{DataIn, DataOut}
 use Rattle.chip.specs.declared.Noted.the-variants.{Was}
 use Rattle.chip.specs.Answers.{done}
 use Rattle.chip.specs.Entries.{result}
-use Rattle.chip.specs.Fifo.{isEmpty, front, pop, push}
+use Rattle.chip.specs.Fifo.{front, pop, push, fifoBytes, newestIn, Whole}
 use Rattle.chip.specs.State.{fresh, setPointer, setFifo, setCount, setLast}
-use Rattle.chip.specs.Image.{imageOf, stateOf, isImage}
+use Rattle.chip.specs.Image.{imageOf, stateOf, imageLength, fifoPlace}
 use Rattle.chip.specs.Phases.{phaseOf}
 use Rattle.chip.specs.Registers.{accessed, accessedAt, auxiliaryRead, pointerRead, pointerSet, stored, registerAt}
 use Rattle.chip.specs.Events.{requested}
-use Rattle.image.proofs.Lists.{run}
-use Rattle.image.proofs.Tests.{both-left, both-right}
-use Rattle.fields.specs.Standing.{Standing}
-use Rattle.fields.proofs.Laws.{Long, long}
-use Rattle.fields.proofs.Stored.{register-at, register-and-pointer}
-use Rattle.quick.specs.Quick.{isPlain, readsData, writesData, takesByte, sendsByte}
-use Rattle.quick.proofs.Laws.{unless, below, plain-read, plain-write, data-read, data-write, write-room, low, taking, taken-room, byte-taken, sending, byte-sent}
-use Rattle.controller.specs.Made.{Made}
+use Rattle.chip.proofs.FifoLaws.{keeps-bytes}
+use Rattle.image.specs.IsImage.{IsImage}
+use Rattle.chip.proofs.ImageFields.{long}
+use Rattle.chip.proofs.ImageRegisters.{register-at, register-and-pointer}
+use Rattle.chip.specs.Moves.{isPlain, readsData, writesData, takesByte, sendsByte}
+use Rattle.chip.proofs.Moves.{unless, below, plain-read, plain-write, data-read, data-write, low, taking, byte-taken, sending, byte-sent}
+use Rattle.controller.specs.Returns.{Returns}
 use Rattle.controller.proofs.Entry.{long-enough, pick-true, and-true, finished}
-use Rattle.controller.proofs.InPlace.{At, at-start, state-is, put-pointer-at, put-last-at, put-low-at, put-fifo-at, put-newest-at}
+use Rattle.controller.proofs.InPlace.{At, at-start, fits, state-is, put-pointer-at, put-last-at, put-low-at, put-fifo-at, put-newest-at}
+use Rattle.chip.proofs.Cases.{both-first, both-second}
 
 -- a reply as it is computed
-replied : (p r : Reply) (n : ℕ) (after : List ℕ) → p ≡ r → Made r n after → Made p n after
+replied : (p r : Reply) (n : ℕ) (after : List ℕ) → p ≡ r → Returns r n after → Returns p n after
 replied p r n after e m = record { number = m .number ∙ ap (λ (x : Reply). result (x .answer)) (sym e); image = m .image ∙ ap (λ (x : Reply). imageOf (x .state)) (sym e) }
 
-popped-long : (q : Fifo) (t : Bool) → length (q .bytes) ≡ 12
-    → length (pick t q (record { bytes = drop 1 (q .bytes) ++ (0 ∷ []); held = q .held - 1 }) .bytes) ≡ 12
-unfolding pick
-popped-long q true h = h
-popped-long q false h = rw length-append (omega (arith, length-drop 1 (q .bytes)))
-
-pop-long : (q : Fifo) → length (q .bytes) ≡ 12 → length (pop q .bytes) ≡ 12
-unfolding pop
-pop-long q h = popped-long q (isEmpty q) h
-
-module _ (l : List ℕ) (o : Standing l) where
+module _ (l : List ℕ) (o : IsImage l) where
   start : At l (stateOf l)
   start = at-start o
 
-  pub length-is : length l ≡ 53
-  length-is = start .fits
+  pub length-is : length l ≡ imageLength
+  length-is = fits start
 
-  pub pointer-set-made : (mark b : ℕ) (after : List ℕ) → mark ≡ 1 → after ≡ pick (eqb (length l) 53) (set l 25 b) l
-      → Made (pick (isSet mark) (pointerSet b (stateOf l)) (pointerRead (stateOf l))) 0 after
+  pub pointer-set-made : (mark b : ℕ) (after : List ℕ) → mark ≡ 1 → after ≡ pick (eqb (length l) imageLength) (set l 25 b) l
+      → Returns (pick (isSet mark) (pointerSet b (stateOf l)) (pointerRead (stateOf l))) 0 after
   unfolding pick pointerSet
   pointer-set-made mark b after m e =
       rw (eq-eqb mark 1 m) (record { number = refl; image = put-pointer-at start after b e .image })
 
-  pub pointer-read-made : (mark b : ℕ) (t : State) → (mark ≡ 1 → ⊥) → t ≡ pick (eqb (length l) 53) (stateOf l) fresh
-      → Made (pick (isSet mark) (pointerSet b (stateOf l)) (pointerRead (stateOf l))) (256 * t .status .pointer) l
+  pub pointer-read-made : (mark b : ℕ) (t : State) → (mark ≡ 1 → ⊥) → t ≡ pick (eqb (length l) imageLength) (stateOf l) fresh
+      → Returns (pick (isSet mark) (pointerSet b (stateOf l)) (pointerRead (stateOf l))) (256 * t .status .pointer) l
   unfolding pick pointerRead
   pointer-read-made mark b t m e =
       rw (ne-eqb mark 1 m)
       (record { number = ap (λ (x : State). 256 * x .status .pointer) (state-is l t o e) ∙ sym (zero-add _); image = start .image })
 
-  pub auxiliary-made : (t : State) (r : Reply) (n : ℕ) → t ≡ pick (eqb (length l) 53) (stateOf l) fresh → r ≡ auxiliaryRead t
-      → n ≡ result (r .answer) → Made (auxiliaryRead (stateOf l)) n l
+  pub auxiliary-made : (t : State) (r : Reply) (n : ℕ) → t ≡ pick (eqb (length l) imageLength) (stateOf l) fresh → r ≡ auxiliaryRead t
+      → n ≡ result (r .answer) → Returns (auxiliaryRead (stateOf l)) n l
   unfolding auxiliaryRead
   auxiliary-made t r n e f h =
       let g : r ≡ auxiliaryRead (stateOf l) = f ∙ ap auxiliaryRead (state-is l t o e) in
@@ -83,15 +71,15 @@ module _ (l : List ℕ) (o : Standing l) where
   plain-below e = below (stateOf l) e
 
   pub plain-written : (b next : ℕ) (after after₂ : List ℕ) → isPlain (stateOf l) ≡ true → b < 256
-      → after ≡ pick (both (eqb (length l) 53) (ltb (getD l 25 0) 23)) (set l (getD l 25 0) b) l
-      → next ≡ (getD l 25 0 + 1) % 256 → after₂ ≡ pick (eqb (length after) 53) (set after 25 next) after
-      → Made (accessed true b (stateOf l)) 0 after₂
+      → after ≡ pick (both (eqb (length l) imageLength) (ltb (getD l 25 0) 23)) (set l (getD l 25 0) b) l
+      → next ≡ (getD l 25 0 + 1) % 256 → after₂ ≡ pick (eqb (length after) imageLength) (set after 25 next) after
+      → Returns (accessed true b (stateOf l)) 0 after₂
   unfolding stateOf
   plain-written b next after after₂ e h f w g =
       let a = getD l 25 0 in
       let k : a < 23 = plain-below e in
       let f′ : after ≡ set l a b = f ∙ pick-true _ _ _ (and-true (long-enough l (o .valid)) (lt-ltb _ _ k)) in
-      let n : length after ≡ 53 = ap length f′ ∙ length-set l a b ∙ length-is in
+      let n : length after ≡ imageLength = ap length f′ ∙ length-set l a b ∙ length-is in
       let g′ : after₂ ≡ set after 25 next = g ∙ pick-true _ _ _ (eq-eqb _ _ n) in
       let p : accessed true b (stateOf l) ≡ done 0 (setPointer next (stored a b (stateOf l))) =
       plain-write (stateOf l) e b ∙ ap (λ (x : ℕ). done 0 (setPointer x (stored a b (stateOf l)))) (sym w) in
@@ -104,8 +92,8 @@ module _ (l : List ℕ) (o : Standing l) where
       })
 
   pub plain-given : (b next : ℕ) (after : List ℕ) → isPlain (stateOf l) ≡ true
-      → next ≡ (getD l 25 0 + 1) % 256 → after ≡ pick (eqb (length l) 53) (set l 25 next) l
-      → Made (accessed false b (stateOf l)) (256 * getD l (getD l 25 0) 0) after
+      → next ≡ (getD l 25 0 + 1) % 256 → after ≡ pick (eqb (length l) imageLength) (set l 25 next) l
+      → Returns (accessed false b (stateOf l)) (256 * getD l (getD l 25 0) 0) after
   unfolding stateOf
   plain-given b next after e w f =
       let a = getD l 25 0 in
@@ -119,14 +107,14 @@ module _ (l : List ℕ) (o : Standing l) where
         image = put-pointer-at start after next f .image;
       })
 
-  pub data-given : (b : ℕ) (t : State) (q : Fifo) (f : ℕ) (after : List ℕ) → t ≡ pick (eqb (length l) 53) (stateOf l) fresh
+  pub data-given : (b : ℕ) (t : State) (q : Fifo) (f : ℕ) (after : List ℕ) → t ≡ pick (eqb (length l) imageLength) (stateOf l) fresh
       → q ≡ pop (t .fifo) → f ≡ front (t .fifo) → readsData (stateOf l) ≡ true
-      → after ≡ pick (eqb (length l) 53) (sets l 40 (q .held ∷ run 12 0 (q .bytes))) l
-      → Made (accessed false b (stateOf l)) (256 * f) after
+      → after ≡ pick (eqb (length l) imageLength) (take fifoPlace l ++ fifoBytes q) l
+      → Returns (accessed false b (stateOf l)) (256 * f) after
   data-given b t q f after e p h d g =
       let i = state-is l t o e in
       let p′ : q ≡ pop (stateOf l .fifo) = p ∙ ap (λ (x : State). pop (x .fifo)) i in
-      let n : length (q .bytes) ≡ 12 = ap (λ (x : Fifo). length (x .bytes)) p′ ∙ pop-long _ (start .long .bytes-long) in
+      let n : Whole q = rw p′ (keeps-bytes .pop-whole (stateOf l .fifo) (start .fifo)) in
       let k = put-fifo-at start after q n g in
       replied _ _ _ _ (data-read (stateOf l) d b)
       (record {
@@ -135,12 +123,11 @@ module _ (l : List ℕ) (o : Standing l) where
       })
 
   pub data-written : (b : ℕ) (after : List ℕ) → writesData (stateOf l) ≡ true
-      → after ≡ pick (both (eqb (length l) 53) (ltb (getD l 40 0) 12)) (set (set l (41 + getD l 40 0) b) 40 (getD l 40 0 + 1)) l
-      → Made (accessed true b (stateOf l)) 0 after
-  unfolding stateOf
+      → after ≡ pick (eqb (length l) imageLength) (take fifoPlace l ++ newestIn b (drop fifoPlace l)) l
+      → Returns (accessed true b (stateOf l)) 0 after
   data-written b after d g =
       replied _ _ _ _ (data-write (stateOf l) d b)
-      (record { number = refl; image = put-newest-at start after b refl (write-room (stateOf l) d) g .image })
+      (record { number = refl; image = put-newest-at start after b g .image })
 
   pub low-enough : takesByte (stateOf l) ≡ true → 2 ≤ stateOf l .registers .count % 256
   low-enough e = low (stateOf l) (taking (stateOf l) e)
@@ -148,39 +135,33 @@ module _ (l : List ℕ) (o : Standing l) where
   pub low-enough-out : sendsByte (stateOf l) ≡ true → 2 ≤ stateOf l .registers .count % 256
   low-enough-out e = low (stateOf l) (sending (stateOf l) e)
 
-  newest-first : (after : List ℕ) (b : ℕ) → takesByte (stateOf l) ≡ true
-      → after ≡ pick (both (eqb (length l) 53) (ltb (getD l 40 0) 12)) (set (set l (41 + getD l 40 0) b) 40 (getD l 40 0 + 1)) l
-      → At after (setFifo (push b (stateOf l .fifo)) (stateOf l))
-  unfolding stateOf
-  newest-first after b d f = put-newest-at start after b refl (taken-room (stateOf l) d) f
-
   pub taken-made : (b v : ℕ) (t : State) (after after₂ after₃ : List ℕ) → takesByte (stateOf l) ≡ true
-      → t ≡ pick (eqb (length l) 53) (stateOf l) fresh → v ≡ (t .registers .count - 1) % 256
-      → after ≡ pick (both (eqb (length l) 53) (ltb (getD l 40 0) 12)) (set (set l (41 + getD l 40 0) b) 40 (getD l 40 0 + 1)) l
-      → after₂ ≡ pick (eqb (length after) 53) (set after 20 v) after
-      → after₃ ≡ pick (eqb (length after₂) 53) (set after₂ 37 2) after₂
-      → Made (requested DataIn b false (stateOf l)) (256 * b) after₃
+      → t ≡ pick (eqb (length l) imageLength) (stateOf l) fresh → v ≡ (t .registers .count - 1) % 256
+      → after ≡ pick (eqb (length l) imageLength) (take fifoPlace l ++ newestIn b (drop fifoPlace l)) l
+      → after₂ ≡ pick (eqb (length after) imageLength) (set after 20 v) after
+      → after₃ ≡ pick (eqb (length after₂) imageLength) (set after₂ 37 2) after₂
+      → Returns (requested DataIn b false (stateOf l)) (256 * b) after₃
   taken-made b v t after after₂ after₃ d e h f g k =
       let i = state-is l t o e in
       let n = low-enough d in
-      let one : At after (setFifo (push b (stateOf l .fifo)) (stateOf l)) = newest-first after b d f in
+      let one : At after (setFifo (push b (stateOf l .fifo)) (stateOf l)) = put-newest-at start after b f in
       let v′ : v ≡ (stateOf l .registers .count - 1) % 256 = h ∙ ap (λ (x : State). (x .registers .count - 1) % 256) i in
       let two = put-low-at one after₂ (stateOf l .registers .count - 1) v v′ g (omega (arith, n)) in
       replied _ _ _ _ (byte-taken (stateOf l) d b)
       (record { number = sym (zero-add _); image = put-last-at two after₃ 2 (Was DataIn) k refl .image })
 
   pub sent-made : (b v : ℕ) (bad : Bool) (t : State) (q : Fifo) (x : ℕ) (after after₂ after₃ : List ℕ) → sendsByte (stateOf l) ≡ true
-      → t ≡ pick (eqb (length l) 53) (stateOf l) fresh → v ≡ (t .registers .count - 1) % 256
+      → t ≡ pick (eqb (length l) imageLength) (stateOf l) fresh → v ≡ (t .registers .count - 1) % 256
       → q ≡ pop (t .fifo) → x ≡ front (t .fifo)
-      → after ≡ pick (eqb (length l) 53) (sets l 40 (q .held ∷ run 12 0 (q .bytes))) l
-      → after₂ ≡ pick (eqb (length after) 53) (set after 20 v) after
-      → after₃ ≡ pick (eqb (length after₂) 53) (set after₂ 37 1) after₂
-      → Made (requested DataOut b bad (stateOf l)) (256 * x) after₃
+      → after ≡ pick (eqb (length l) imageLength) (take fifoPlace l ++ fifoBytes q) l
+      → after₂ ≡ pick (eqb (length after) imageLength) (set after 20 v) after
+      → after₃ ≡ pick (eqb (length after₂) imageLength) (set after₂ 37 1) after₂
+      → Returns (requested DataOut b bad (stateOf l)) (256 * x) after₃
   sent-made b v bad t q x after after₂ after₃ d e h p y f g k =
       let i = state-is l t o e in
       let n = low-enough-out d in
       let p′ : q ≡ pop (stateOf l .fifo) = p ∙ ap (λ (x : State). pop (x .fifo)) i in
-      let m : length (q .bytes) ≡ 12 = ap (λ (x : Fifo). length (x .bytes)) p′ ∙ pop-long _ (start .long .bytes-long) in
+      let m : Whole q = rw p′ (keeps-bytes .pop-whole (stateOf l .fifo) (start .fifo)) in
       let one = put-fifo-at start after q m f in
       let v′ : v ≡ (stateOf l .registers .count - 1) % 256 = h ∙ ap (λ (x : State). (x .registers .count - 1) % 256) i in
       let two = put-low-at one after₂ (stateOf l .registers .count - 1) v v′ g (omega (arith, n)) in
@@ -192,14 +173,14 @@ module _ (l : List ℕ) (o : Standing l) where
       })
 
   -- a test of the state as the code reads it
-  pub said : (P : State → Bool) (t : State) (r : Bool) → t ≡ pick (eqb (length l) 53) (stateOf l) fresh → r ≡ P t → r ≡ true
+  pub said : (P : State → Bool) (t : State) (r : Bool) → t ≡ pick (eqb (length l) imageLength) (stateOf l) fresh → r ≡ P t → r ≡ true
       → P (stateOf l) ≡ true
   said P t r e f h = sym (ap P (state-is l t o e)) ∙ sym f ∙ h
 
   -- a call made on the state, and the whole image written
   pub whole-made : (f : State → Reply) (t : State) (r : Reply) (n : ℕ) (after : List ℕ)
-      → t ≡ pick (eqb (length l) 53) (stateOf l) fresh → r ≡ f t → n ≡ result (r .answer)
-      → after ≡ pick (eqb (length l) 53) (imageOf (r .state)) l → Made (f (stateOf l)) n after
+      → t ≡ pick (eqb (length l) imageLength) (stateOf l) fresh → r ≡ f t → n ≡ result (r .answer)
+      → after ≡ pick (eqb (length l) imageLength) (imageOf (r .state)) l → Returns (f (stateOf l)) n after
   whole-made f t r n after e g a b =
       replied _ _ _ _ (sym (g ∙ ap f (state-is l t o e))) (finished l r n after (o .valid) a b)
 
@@ -207,19 +188,19 @@ module _ (l : List ℕ) (o : Standing l) where
 
 pub takes-is : (p : ℕ) (bad x : Bool) → both (eqb p 1) (pick bad false x) ≡ true → (p ≡ 1) × (bad ≡ false) × (x ≡ true)
 takes-is p bad x e =
-    let r = unless bad x (both-right _ _ e) in
-    (eqb-true p 1 (both-left _ _ e), r .0, r .1)
+    let r = unless bad x (both-second _ _ e) in
+    (eqb-true p 1 (both-first _ _ e), r .0, r .1)
 
 pub sends-is : (p : ℕ) (x : Bool) → both (eqb p 0) x ≡ true → (p ≡ 0) × (x ≡ true)
-sends-is p x e = (eqb-true p 0 (both-left _ _ e), both-right _ _ e)
+sends-is p x e = (eqb-true p 0 (both-first _ _ e), both-second _ _ e)
 
 pub taken-request : (p b n : ℕ) (bad : Bool) (s : State) (after : List ℕ) → p ≡ 1 → bad ≡ false
-    → Made (requested DataIn b false s) n after → Made (requested (phaseOf p) b bad s) n after
+    → Returns (requested DataIn b false s) n after → Returns (requested (phaseOf p) b bad s) n after
 unfolding phaseOf pick
 taken-request p b n bad s after e f m = rw (e, f) m
 
 pub sent-request : (p b n : ℕ) (bad : Bool) (s : State) (after : List ℕ) → p ≡ 0
-    → Made (requested DataOut b bad s) n after → Made (requested (phaseOf p) b bad s) n after
+    → Returns (requested DataOut b bad s) n after → Returns (requested (phaseOf p) b bad s) n after
 unfolding phaseOf pick
 sent-request p b n bad s after e m = rw e m
 

@@ -1,37 +1,18 @@
 // What a board drives on the bus.
 ghost use mathlib.Core.Path.{_≡_};
 ghost use Prim.Native.Nat.{_*_};
-ghost use Rattle.chip.specs.Entries.{connectionBits, lineBits};
+ghost use Rattle.chip.specs.Entries.{lineBits};
 ghost use Rattle.chip.specs.Lines.{bit};
-use chip::Connection;
 use chip::State;
+use state::connections;
 use state::get;
 
-fn connection_bits(c: Connection) -> u8
-    ensures { λ r. ⌜ r ≡ connectionBits c ⌝ }
+// A flag as a bit of the given weight.
+fn weighted(flag: bool, weight: u8) -> u8
+    ensures { λ r. ⌜ r ≡ bit flag * weight ⌝ }
 {
-    match c {
-        Connection::Disconnected => 0,
-        Connection::Selecting => 16,
-        Connection::Waiting => 32,
-        Connection::Connected => 8,
-    }
-}
-
-fn atn_bit(atn: bool) -> u8
-    ensures { λ r. ⌜ r ≡ bit atn * 64 ⌝ }
-{
-    if atn {
-        return 64;
-    }
-    0
-}
-
-fn ack_bit(ack: bool) -> u8
-    ensures { λ r. ⌜ r ≡ bit ack * 128 ⌝ }
-{
-    if ack {
-        return 128;
+    if flag {
+        return weight;
     }
     0
 }
@@ -42,12 +23,14 @@ pub fn line_result(s: State) -> u32
 {
     let target = lines::destination(s);
     let own = get::identity(s);
-    let connection = connection_bits(get::connection(s));
-    let atn = atn_bit(s.wire.atn);
-    let ack = ack_bit(s.wire.ack);
+    let connected = weighted(connections::is_connected(s), 8);
+    let selecting = weighted(connections::is_selecting(s), 16);
+    let waiting = weighted(connections::is_waiting(s), 32);
+    let atn = weighted(s.wire.handshake.atn, 64);
+    let ack = weighted(s.wire.handshake.ack, 128);
     256
         * ((target.number as u32)
-            + (connection as u32)
+            + ((connected as u32) + (selecting as u32) + (waiting as u32))
             + (atn as u32)
             + (ack as u32)
             + (own.number as u32) * 256)

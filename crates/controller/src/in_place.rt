@@ -1,4 +1,4 @@
-// Calls made in the image itself: those that room quick names store only the bytes that change. Every other call is made on the
+// Calls made in the image itself: those that short.rt names store only the bytes that change. Every other call is made on the
 // state, and the whole image is written.
 ghost use lib.Dec.{eqb};
 ghost use Prim.Native.Nat.{_-_, _%_, _≤_};
@@ -10,22 +10,22 @@ ghost use Rattle.chip.specs.Events.{requested};
 ghost use Rattle.chip.specs.Image.{stateOf};
 ghost use Rattle.chip.specs.Phases.{phaseOf};
 ghost use Rattle.chip.specs.Registers.{accessed, auxiliaryRead, pointerRead, pointerSet};
-ghost use Rattle.controller.specs.Made.{Made};
-ghost use Rattle.fields.specs.Standing.{Standing};
-ghost use Rattle.quick.specs.Quick.{isPlain, readsData, sendsByte, takesByte};
+ghost use Rattle.controller.specs.Returns.{Returns};
+ghost use Rattle.image.specs.IsImage.{IsImage};
+ghost use Rattle.chip.specs.Moves.{isPlain, readsData, sendsByte, takesByte};
 use crate::finish;
+use crate::short;
 use bus::request;
 use chip::Phase;
 use chip::State;
-use endings::fifo;
-use state::phases;
+use image::store;
 
 pub(crate) fn pointer(mark: u32, byte: u8, image: &mut [u8]) -> u32
-    requires { ⌜ Standing (now image) ⌝ }
-    ensures { λ r. ⌜ Made (pick (isSet mark) (pointerSet byte (stateOf (now (image .entry)))) (pointerRead (stateOf (now (image .entry))))) r (now (image .exit)) ⌝ }
+    requires { ⌜ IsImage (now image) ⌝ }
+    ensures { λ r. ⌜ Returns (pick (isSet mark) (pointerSet byte (stateOf (now (image .entry)))) (pointerRead (stateOf (now (image .entry))))) r (now (image .exit)) ⌝ }
 {
     if mark == 1 {
-        fields::put_pointer(byte, image);
+        store::pointer(byte, image);
         return 0;
     }
     let s = image::state(image);
@@ -33,8 +33,8 @@ pub(crate) fn pointer(mark: u32, byte: u8, image: &mut [u8]) -> u32
 }
 
 pub(crate) fn auxiliary(image: &mut [u8]) -> u32
-    requires { ⌜ Standing (now image) ⌝ }
-    ensures { λ r. ⌜ Made (auxiliaryRead (stateOf (now (image .entry)))) r (now (image .exit)) ⌝ }
+    requires { ⌜ IsImage (now image) ⌝ }
+    ensures { λ r. ⌜ Returns (auxiliaryRead (stateOf (now (image .entry)))) r (now (image .exit)) ⌝ }
 {
     let s = image::state(image);
     let r = host::auxiliary_read(s);
@@ -44,59 +44,59 @@ pub(crate) fn auxiliary(image: &mut [u8]) -> u32
 
 // One of registers 00 to 16h is read. "The 8-bit address pointer uses the supplied wrapping add at every address but three."
 fn plain_read(image: &mut [u8]) -> u32
-    requires { ⌜ Standing (now image) × (isPlain (stateOf (now image)) ≡ true) ⌝ }
-    ensures { λ r. ⌜ Made (accessed false 0 (stateOf (now (image .entry)))) r (now (image .exit)) ⌝ }
+    requires { ⌜ IsImage (now image) × (isPlain (stateOf (now image)) ≡ true) ⌝ }
+    ensures { λ r. ⌜ Returns (accessed false 0 (stateOf (now (image .entry)))) r (now (image .exit)) ⌝ }
 {
     let a = image[25];
     let at = a as usize;
     let value = image[at];
-    fields::put_pointer(std::num::wrapping_add_u8(a, 1), image);
+    store::pointer(std::num::wrapping_add_u8(a, 1), image);
     256 * (value as u32)
 }
 
 // One of them is written.
 fn plain_written(byte: u8, image: &mut [u8]) -> u32
-    requires { ⌜ Standing (now image) × (isPlain (stateOf (now image)) ≡ true) ⌝ }
-    ensures { λ r. ⌜ Made (accessed true byte (stateOf (now (image .entry)))) r (now (image .exit)) ⌝ }
+    requires { ⌜ IsImage (now image) × (isPlain (stateOf (now image)) ≡ true) ⌝ }
+    ensures { λ r. ⌜ Returns (accessed true byte (stateOf (now (image .entry)))) r (now (image .exit)) ⌝ }
 {
     let a = image[25];
-    fields::put_register(a, byte, image);
-    fields::put_pointer(std::num::wrapping_add_u8(a, 1), image);
+    store::register(a, byte, image);
+    store::pointer(std::num::wrapping_add_u8(a, 1), image);
     0
 }
 
 // The oldest byte of the FIFO, for the host.
 fn data_read(image: &mut [u8]) -> u32
-    requires { ⌜ Standing (now image) × (readsData (stateOf (now image)) ≡ true) ⌝ }
-    ensures { λ r. ⌜ Made (accessed false 0 (stateOf (now (image .entry)))) r (now (image .exit)) ⌝ }
+    requires { ⌜ IsImage (now image) × (readsData (stateOf (now image)) ≡ true) ⌝ }
+    ensures { λ r. ⌜ Returns (accessed false 0 (stateOf (now (image .entry)))) r (now (image .exit)) ⌝ }
 {
     let s = image::state(image);
     let q = s.fifo;
-    fields::put_fifo(fifo::pop(q), image);
+    store::fifo(fifo::pop(q), image);
     256 * (fifo::front(q) as u32)
 }
 
 // The long ways. tools/native-lib keeps them out of the entries' own code, which then needs few registers.
 
 fn read_whole(image: &mut [u8]) -> u32
-    requires { ⌜ Standing (now image) ⌝ }
-    ensures { λ r. ⌜ Made (accessed false 0 (stateOf (now (image .entry)))) r (now (image .exit)) ⌝ }
+    requires { ⌜ IsImage (now image) ⌝ }
+    ensures { λ r. ⌜ Returns (accessed false 0 (stateOf (now (image .entry)))) r (now (image .exit)) ⌝ }
 {
     let s = image::state(image);
     finish::finish(host::accessed(false, 0, s), image)
 }
 
 fn written_whole(byte: u8, image: &mut [u8]) -> u32
-    requires { ⌜ Standing (now image) ⌝ }
-    ensures { λ r. ⌜ Made (accessed true byte (stateOf (now (image .entry)))) r (now (image .exit)) ⌝ }
+    requires { ⌜ IsImage (now image) ⌝ }
+    ensures { λ r. ⌜ Returns (accessed true byte (stateOf (now (image .entry)))) r (now (image .exit)) ⌝ }
 {
     let s = image::state(image);
     finish::finish(host::accessed(true, byte, s), image)
 }
 
 fn request_whole(phase: u8, byte: u8, bad: bool, image: &mut [u8]) -> u32
-    requires { ⌜ Standing (now image) ⌝ }
-    ensures { λ r. ⌜ Made (requested (phaseOf phase) byte bad (stateOf (now (image .entry)))) r (now (image .exit)) ⌝ }
+    requires { ⌜ IsImage (now image) ⌝ }
+    ensures { λ r. ⌜ Returns (requested (phaseOf phase) byte bad (stateOf (now (image .entry)))) r (now (image .exit)) ⌝ }
 {
     let s = image::state(image);
     let p = phases::phase_of(phase);
@@ -104,29 +104,29 @@ fn request_whole(phase: u8, byte: u8, bad: bool, image: &mut [u8]) -> u32
 }
 
 pub(crate) fn register_read(image: &mut [u8]) -> u32
-    requires { ⌜ Standing (now image) ⌝ }
-    ensures { λ r. ⌜ Made (accessed false 0 (stateOf (now (image .entry)))) r (now (image .exit)) ⌝ }
+    requires { ⌜ IsImage (now image) ⌝ }
+    ensures { λ r. ⌜ Returns (accessed false 0 (stateOf (now (image .entry)))) r (now (image .exit)) ⌝ }
 {
     let s = image::state(image);
-    if quick::is_plain(s) {
+    if short::is_plain(s) {
         return plain_read(image);
     }
-    if quick::reads_data(s) {
+    if short::reads_data(s) {
         return data_read(image);
     }
     read_whole(image)
 }
 
 pub(crate) fn register_written(byte: u8, image: &mut [u8]) -> u32
-    requires { ⌜ Standing (now image) ⌝ }
-    ensures { λ r. ⌜ Made (accessed true byte (stateOf (now (image .entry)))) r (now (image .exit)) ⌝ }
+    requires { ⌜ IsImage (now image) ⌝ }
+    ensures { λ r. ⌜ Returns (accessed true byte (stateOf (now (image .entry)))) r (now (image .exit)) ⌝ }
 {
     let s = image::state(image);
-    if quick::is_plain(s) {
+    if short::is_plain(s) {
         return plain_written(byte, image);
     }
-    if quick::writes_data(s) {
-        fields::put_newest(byte, image);
+    if short::writes_data(s) {
+        store::newest(byte, image);
         return 0;
     }
     written_whole(byte, image)
@@ -142,28 +142,28 @@ fn low_after(s: State) -> u8
 
 // A byte of Data In, into the FIFO.
 fn byte_taken(byte: u8, image: &mut [u8]) -> u32
-    requires { ⌜ Standing (now image) × (takesByte (stateOf (now image)) ≡ true) ⌝ }
-    ensures { λ r. ⌜ Made (requested Phase.DataIn byte false (stateOf (now (image .entry)))) r (now (image .exit)) ⌝ }
+    requires { ⌜ IsImage (now image) × (takesByte (stateOf (now image)) ≡ true) ⌝ }
+    ensures { λ r. ⌜ Returns (requested Phase.DataIn byte false (stateOf (now (image .entry)))) r (now (image .exit)) ⌝ }
 {
     let s = image::state(image);
     let low = low_after(s);
-    fields::put_newest(byte, image);
-    fields::put_count_low(low, image);
-    fields::put_last(2, image);
+    store::newest(byte, image);
+    store::count_low(low, image);
+    store::last(2, image);
     256 * (byte as u32)
 }
 
 // A byte of Data Out, from the FIFO.
 fn byte_sent(byte: u8, bad: bool, image: &mut [u8]) -> u32
-    requires { ⌜ Standing (now image) × (sendsByte (stateOf (now image)) ≡ true) ⌝ }
-    ensures { λ r. ⌜ Made (requested Phase.DataOut byte bad (stateOf (now (image .entry)))) r (now (image .exit)) ⌝ }
+    requires { ⌜ IsImage (now image) × (sendsByte (stateOf (now image)) ≡ true) ⌝ }
+    ensures { λ r. ⌜ Returns (requested Phase.DataOut byte bad (stateOf (now (image .entry)))) r (now (image .exit)) ⌝ }
 {
     let s = image::state(image);
     let q = s.fifo;
     let low = low_after(s);
-    fields::put_fifo(fifo::pop(q), image);
-    fields::put_count_low(low, image);
-    fields::put_last(1, image);
+    store::fifo(fifo::pop(q), image);
+    store::count_low(low, image);
+    store::last(1, image);
     256 * (fifo::front(q) as u32)
 }
 
@@ -174,7 +174,7 @@ fn takes(phase: u8, bad: bool, s: State) -> bool
         if bad {
             return false;
         }
-        return quick::takes_byte(s);
+        return short::takes_byte(s);
     }
     false
 }
@@ -183,14 +183,14 @@ fn sends(phase: u8, s: State) -> bool
     ensures { λ r. ⌜ r ≡ both (eqb phase 0) (sendsByte s) ⌝ }
 {
     if phase == 0 {
-        return quick::sends_byte(s);
+        return short::sends_byte(s);
     }
     false
 }
 
 pub(crate) fn request(phase: u8, byte: u8, bad: bool, image: &mut [u8]) -> u32
-    requires { ⌜ Standing (now image) ⌝ }
-    ensures { λ r. ⌜ Made (requested (phaseOf phase) byte bad (stateOf (now (image .entry)))) r (now (image .exit)) ⌝ }
+    requires { ⌜ IsImage (now image) ⌝ }
+    ensures { λ r. ⌜ Returns (requested (phaseOf phase) byte bad (stateOf (now (image .entry)))) r (now (image .exit)) ⌝ }
 {
     let s = image::state(image);
     if takes(phase, bad, s) {

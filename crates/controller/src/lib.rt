@@ -4,30 +4,33 @@
 mod driven; // driven.rt: what a board drives on the bus
 mod finish; // finish.rt: what every entry does last
 mod in_place; // in_place.rt: calls that store only the bytes that change
+mod short; // short.rt: which calls those are
 
 use bus::answer;
 use bus::free;
 use bus::reselection;
 use bus::time;
+use state::fresh;
 ghost use Rattle.chip.specs.Calls as Calls;
 ghost use Rattle.chip.specs.Entries.{entered, freshEntered, linesEntered};
+ghost use Rattle.chip.specs.Image.{imageLength};
 ghost use mathlib.Core.Path.{_≡_};
 
 const BAD_NUMBER: u32 = 3;
 
 #[no_mangle]
 pub extern "C" fn am33c93a_image_length() -> u32
-    ensures { λ r. ⌜ r ≡ 53 ⌝ }
+    ensures { λ r. ⌜ r ≡ imageLength ⌝ }
 {
-    53
+    image::LENGTH as u32
 }
 
 #[no_mangle]
 pub extern "C" fn am33c93a_fresh(image: &mut [u8]) -> u32
     ensures { λ r. ⌜ (r ≡ freshEntered (now (image .entry)) .result) × (now (image .exit) ≡ freshEntered (now (image .entry)) .image) ⌝ }
 {
-    if image.len() == 53 {
-        image::write(image::fresh_state(), image);
+    if image.len() == image::LENGTH {
+        image::write(fresh::fresh(), image);
         return 0;
     }
     BAD_NUMBER
@@ -40,7 +43,7 @@ pub extern "C" fn am33c93a_pointer(image: &mut [u8], mark: u32, byte: u32) -> u3
 {
     if mark < 2 {
         if byte < 256 {
-            if fields::stands(image) {
+            if image::is_image(image) {
                 return in_place::pointer(mark, byte as u8, image);
             }
             return BAD_NUMBER;
@@ -55,7 +58,7 @@ pub extern "C" fn am33c93a_auxiliary(image: &mut [u8]) -> u32
     ensures { λ r. ⌜ (r ≡ entered Calls.auxiliary (now (image .entry)) .result)
         × (now (image .exit) ≡ entered Calls.auxiliary (now (image .entry)) .image) ⌝ }
 {
-    if fields::stands(image) {
+    if image::is_image(image) {
         return in_place::auxiliary(image);
     }
     BAD_NUMBER
@@ -68,7 +71,7 @@ pub extern "C" fn am33c93a_register(image: &mut [u8], mark: u32, byte: u32) -> u
 {
     if mark < 2 {
         if byte < 256 {
-            if fields::stands(image) {
+            if image::is_image(image) {
                 if mark == 1 {
                     return in_place::register_written(byte as u8, image);
                 }
@@ -154,7 +157,7 @@ pub extern "C" fn am33c93a_request(image: &mut [u8], phase: u32, byte: u32, pari
     if phase < 8 {
         if byte < 256 {
             if parity < 2 {
-                if fields::stands(image) {
+                if image::is_image(image) {
                     return in_place::request(phase as u8, byte as u8, parity == 1, image);
                 }
                 return BAD_NUMBER;

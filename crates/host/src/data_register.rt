@@ -4,8 +4,6 @@ ghost use Rattle.chip.specs.Registers.{dataRead, dataReadBy, dataWritten, dataW
 use chip::Direction;
 use chip::Reply;
 use chip::State;
-use endings::fifo;
-use endings::interrupts;
 use state::answers;
 use state::get;
 use state::set;
@@ -13,7 +11,7 @@ use state::set;
 fn read_incoming(s: State) -> Reply
     ensures { λ r. ⌜ r ≡ dataReadBy Direction.In s ⌝ }
 {
-    if transfer::dbr(s) {
+    if count::dbr(s) {
         let q = s.fifo;
         return answers::done(
             fifo::front(q),
@@ -42,7 +40,7 @@ pub fn data_read(s: State) -> Reply
 fn write_outgoing(b: u8, s: State) -> Reply
     ensures { λ r. ⌜ r ≡ dataWrittenBy Direction.Out b s ⌝ }
 {
-    if transfer::dbr(s) {
+    if count::dbr(s) {
         let q = s.fifo;
         return answers::done(0, set::fifo(s, fifo::push(b, q)));
     }

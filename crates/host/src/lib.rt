@@ -11,7 +11,6 @@ ghost use lib.Dec.{eqb};
 use chip::Answer;
 use chip::Reply;
 use chip::State;
-use endings::interrupts;
 use state::answers;
 use state::get;
 use state::set;
@@ -21,7 +20,7 @@ pub fn auxiliary_read(s: State) -> Reply
 {
     let int = interrupts::interrupted(s);
     let bsy = interrupts::busy(s);
-    let dbr = transfer::dbr(s);
+    let dbr = count::dbr(s);
     answers::done(lines::packed(int, s.status.lci, bsy, s.status.pe, dbr), s)
 }
 

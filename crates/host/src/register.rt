@@ -1,52 +1,48 @@
 // Registers 00 to 16h, read and stored at their addresses.
 ghost use mathlib.Core.Path.{_≡_};
-ghost use Rattle.chip.specs.Registers.{highWritten, lowWritten, middleWritten, registerAt, stored};
+ghost use Rattle.chip.specs.Registers.{highWritten, lowWritten, middleWritten, registerAt, stored, storedIn};
+ghost use Rattle.chip.specs.State.{withCdb};
 ghost use Prim.Native.Nat.{_*_, _%_, _+_, _/_};
+use chip::Descriptor;
 use chip::Registers;
 use chip::State;
 use state::set;
-
-// Bits 7 to 0 of n.
-fn low_byte(n: u32) -> u8
-    ensures { λ r. ⌜ r ≡ n % 256 ⌝ }
-{
-    (n % 256) as u8
-}
 
 pub fn register_at(a: u8, r: Registers) -> u8
     ensures { λ x. ⌜ x ≡ registerAt a r ⌝ }
 {
     if a == 0x00 {
-        return r.own;
+        return r.setup.own;
     }
     if a == 0x01 {
-        return r.control;
+        return r.setup.control;
     }
     if a == 0x02 {
-        return r.timeout;
+        return r.setup.timeout;
     }
     if a < 0x0f {
-        let cdb = r.cdb;
+        let descriptor = r.descriptor;
+        let cdb = descriptor.cdb;
         let at = (a - 3) as usize;
         return cdb[at];
     }
     if a == 0x0f {
-        return r.lun;
+        return r.descriptor.lun;
     }
     if a == 0x10 {
-        return r.phase;
+        return r.descriptor.phase;
     }
     if a == 0x11 {
-        return r.synchronous;
+        return r.setup.synchronous;
     }
     if a == 0x12 {
-        return low_byte(r.count / 65536);
+        return lines::low_byte(r.count / 65536);
     }
     if a == 0x13 {
-        return low_byte(r.count / 256);
+        return lines::low_byte(r.count / 256);
     }
     if a == 0x14 {
-        return low_byte(r.count);
+        return lines::low_byte(r.count);
     }
     if a == 0x15 {
         return r.destination;
@@ -72,45 +68,84 @@ fn low_written(b: u8, n: u32) -> u32
     n / 256 * 256 + (b as u32)
 }
 
+fn with_cdb(x: [u8; 12], r: Registers) -> Registers
+    ensures { λ t. ⌜ t ≡ withCdb x r ⌝ }
+{
+    let setup = r.setup;
+    let d = r.descriptor;
+    let descriptor = Descriptor {
+        cdb: x,
+        lun: d.lun,
+        phase: d.phase,
+    };
+    Registers {
+        setup,
+        descriptor,
+        count: r.count,
+        destination: r.destination,
+        source: r.source,
+    }
+}
+
+// The registers with the one at a written.
+fn stored_in(a: u8, b: u8, r: Registers) -> Registers
+    ensures { λ x. ⌜ x ≡ storedIn a b r ⌝ }
+{
+    let mut t = r;
+    if a == 0x00 {
+        t.setup.own = b;
+        return t;
+    }
+    if a == 0x01 {
+        t.setup.control = b;
+        return t;
+    }
+    if a == 0x02 {
+        t.setup.timeout = b;
+        return t;
+    }
+    if a < 0x0f {
+        let descriptor = r.descriptor;
+        let mut cdb = descriptor.cdb;
+        let at = (a - 3) as usize;
+        cdb[at] = b;
+        return with_cdb(cdb, r);
+    }
+    if a == 0x0f {
+        t.descriptor.lun = b;
+        return t;
+    }
+    if a == 0x10 {
+        t.descriptor.phase = b;
+        return t;
+    }
+    if a == 0x11 {
+        t.setup.synchronous = b;
+        return t;
+    }
+    if a == 0x12 {
+        t.count = high_written(b, r.count);
+        return t;
+    }
+    if a == 0x13 {
+        t.count = middle_written(b, r.count);
+        return t;
+    }
+    if a == 0x14 {
+        t.count = low_written(b, r.count);
+        return t;
+    }
+    if a == 0x15 {
+        t.destination = b;
+        return t;
+    }
+    t.source = b;
+    t
+}
+
 pub fn stored(a: u8, b: u8, s: State) -> State
     ensures { λ r. ⌜ r ≡ stored a b s ⌝ }
 {
-    if a == 0x00 {
-        return set::own(s, b);
-    }
-    if a == 0x01 {
-        return set::control(s, b);
-    }
-    if a == 0x02 {
-        return set::timeout(s, b);
-    }
-    if a < 0x0f {
-        let registers = s.registers;
-        let mut cdb = registers.cdb;
-        let at = (a - 3) as usize;
-        cdb[at] = b;
-        return set::cdb(s, cdb);
-    }
-    if a == 0x0f {
-        return set::lun(s, b);
-    }
-    if a == 0x10 {
-        return set::phase(s, b);
-    }
-    if a == 0x11 {
-        return set::synchronous(s, b);
-    }
-    if a == 0x12 {
-        return set::count(s, high_written(b, s.registers.count));
-    }
-    if a == 0x13 {
-        return set::count(s, middle_written(b, s.registers.count));
-    }
-    if a == 0x14 {
-        return set::count(s, low_written(b, s.registers.count));
-    }
-    if a == 0x15 {
-        return set::destination(s, b);
-    }
-    set::source(s, b)
+    let registers = s.registers;
+    set::registers(s, stored_in(a, b, registers))
 }

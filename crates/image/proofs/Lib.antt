@@ -1,7 +1,1 @@
-pub mod Lists
-pub mod Tests
-pub mod Zeros
-pub mod Forms
-pub mod Valid
-pub mod Places
-pub mod Laws
+pub mod Ends

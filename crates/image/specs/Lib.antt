@@ -1,2 +1,2 @@
+pub mod IsImage
 pub mod Read
-pub mod Ok

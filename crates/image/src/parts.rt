@@ -1,7 +1,7 @@
 // The parts of a state, out of an image and into it.
+use crate::FIFO;
+use crate::LENGTH;
 use crate::cases::bit_of;
-use crate::cases::connection_byte;
-use crate::cases::connection_of;
 use crate::cases::direction_byte;
 use crate::cases::direction_of;
 use crate::cases::ending_byte;
@@ -9,28 +9,28 @@ use crate::cases::noted_byte;
 use crate::cases::noted_of;
 use crate::cases::pending_byte;
 use crate::cases::pending_of;
-use crate::cases::running_byte;
-use crate::cases::running_of;
-use crate::runs::get;
-use crate::runs::put;
-use chip::Connection;
-use chip::Direction;
+use crate::copy::get;
+use crate::copy::put;
+use crate::store;
+use chip::Descriptor;
 use chip::Fifo;
+use chip::Handshake;
 use chip::Identity;
-use chip::Noted;
-use chip::Pending;
 use chip::Registers;
-use chip::Running;
+use chip::Seen;
+use chip::Setup;
 use chip::State;
 use chip::Status;
 use chip::Transfer;
 use chip::Wire;
+use fifo::part;
+use state::connections;
+use state::running;
 ghost use mathlib.Core.Path.{_≡_};
 ghost use Prim.Native.Nat.{_+_, _*_, _/_, _%_};
 ghost use lib.ListN.{length, take, drop};
 ghost use lib.Seq.{sets};
-ghost use Rattle.chip.specs.State.{fresh};
-ghost use Rattle.chip.specs.Image.{stateOf, headBytes, middleBytes, imageOf};
+ghost use Rattle.chip.specs.Image.{imageLength, stateOf, headBytes, middleBytes, imageOf};
 
 // The three bytes of a count, high byte first.
 fn count_of(high: u8, middle: u8, low: u8) -> u32
@@ -39,39 +39,37 @@ fn count_of(high: u8, middle: u8, low: u8) -> u32
     (high as u32) << 16 | (middle as u32) << 8 | (low as u32)
 }
 
-fn low_byte(x: u32) -> u8
-    ensures { λ r. ⌜ r ≡ x % 256 ⌝ }
-{
-    (x & 0xff) as u8
-}
-
 fn middle_byte(x: u32) -> u8
     ensures { λ r. ⌜ r ≡ x / 256 % 256 ⌝ }
 {
-    low_byte(x >> 8)
+    lines::low_byte(x >> 8)
 }
 
 fn high_byte(x: u32) -> u8
     ensures { λ r. ⌜ r ≡ x / 65536 % 256 ⌝ }
 {
-    low_byte(x >> 16)
+    lines::low_byte(x >> 16)
 }
 
 fn registers_of(image: &[u8]) -> Registers
-    requires { ⌜ length (now image) ≡ 53 ⌝ }
+    requires { ⌜ length (now image) ≡ imageLength ⌝ }
     ensures { λ r. ⌜ r ≡ stateOf (now (image .entry)) .registers ⌝ }
 {
     let mut cdb = [0u8; 12];
     get(image, 3, &mut cdb);
     let count = count_of(image[18], image[19], image[20]);
     Registers {
-        own: image[0],
-        control: image[1],
-        timeout: image[2],
-        cdb,
-        lun: image[15],
-        phase: image[16],
-        synchronous: image[17],
+        setup: Setup {
+            own: image[0],
+            control: image[1],
+            timeout: image[2],
+            synchronous: image[17],
+        },
+        descriptor: Descriptor {
+            cdb,
+            lun: image[15],
+            phase: image[16],
+        },
         count,
         destination: image[21],
         source: image[22],
@@ -79,7 +77,7 @@ fn registers_of(image: &[u8]) -> Registers
 }
 
 fn status_of(image: &[u8]) -> Status
-    requires { ⌜ length (now image) ≡ 53 ⌝ }
+    requires { ⌜ length (now image) ≡ imageLength ⌝ }
     ensures { λ r. ⌜ r ≡ stateOf (now (image .entry)) .status ⌝ }
 {
     let pending = pending_of(image[28], image[29]);
@@ -94,43 +92,39 @@ fn status_of(image: &[u8]) -> Status
 }
 
 fn fifo_of(image: &[u8]) -> Fifo
-    requires { ⌜ length (now image) ≡ 53 ⌝ }
+    requires { ⌜ length (now image) ≡ imageLength ⌝ }
     ensures { λ r. ⌜ r ≡ stateOf (now (image .entry)) .fifo ⌝ }
 {
-    let mut bytes = [0u8; 12];
-    get(image, 41, &mut bytes);
-    Fifo {
-        bytes,
-        held: image[40],
-    }
+    part::get(&image[FIFO..LENGTH])
 }
 
 fn transfer_of(image: &[u8]) -> Transfer
-    requires { ⌜ length (now image) ≡ 53 ⌝ }
+    requires { ⌜ length (now image) ≡ imageLength ⌝ }
     ensures { λ r. ⌜ r ≡ stateOf (now (image .entry)) .transfer ⌝ }
 {
-    let running = running_of(image[31]);
+    let running = running::running_of(image[31]);
     let direction = direction_of(image[32]);
     Transfer {
         running,
         direction,
-        one: image[33] == 1,
+        single: image[33] == 1,
     }
 }
 
 fn wire_of(image: &[u8]) -> Wire
-    requires { ⌜ length (now image) ≡ 53 ⌝ }
+    requires { ⌜ length (now image) ≡ imageLength ⌝ }
     ensures { λ r. ⌜ r ≡ stateOf (now (image .entry)) .wire ⌝ }
 {
-    let connection = connection_of(image[30]);
+    let connection = connections::connection_of(image[30]);
     let reported = noted_of(image[36]);
     let last = noted_of(image[37]);
     Wire {
         connection,
-        atn: image[34] == 1,
-        ack: image[35] == 1,
-        reported,
-        last,
+        handshake: Handshake {
+            atn: image[34] == 1,
+            ack: image[35] == 1,
+        },
+        seen: Seen { reported, last },
         identity: Identity { number: image[38] },
         elapsed: image[39],
     }
@@ -138,7 +132,7 @@ fn wire_of(image: &[u8]) -> Wire
 
 // The state whose image the bytes are; of bytes that are no image, some state or other.
 pub(crate) fn state_of(image: &[u8]) -> State
-    requires { ⌜ length (now image) ≡ 53 ⌝ }
+    requires { ⌜ length (now image) ≡ imageLength ⌝ }
     ensures { λ r. ⌜ r ≡ stateOf (now (image .entry)) ⌝ }
 {
     let registers = registers_of(image);
@@ -155,80 +149,35 @@ pub(crate) fn state_of(image: &[u8]) -> State
     }
 }
 
-pub(crate) fn fresh() -> State
-    ensures { λ r. ⌜ r ≡ fresh ⌝ }
-{
-    State {
-        registers: Registers {
-            own: 0,
-            control: 0,
-            timeout: 0,
-            cdb: [0u8; 12],
-            lun: 0,
-            phase: 0,
-            synchronous: 0,
-            count: 0,
-            destination: 0,
-            source: 0,
-        },
-        status: Status {
-            pointer: 0,
-            code: 0,
-            command: 0,
-            lci: false,
-            pe: false,
-            pending: Pending::Nothing,
-        },
-        fifo: Fifo {
-            bytes: [0u8; 12],
-            held: 0,
-        },
-        transfer: Transfer {
-            running: Running::Idle,
-            direction: Direction::Unfixed,
-            one: false,
-        },
-        wire: Wire {
-            connection: Connection::Disconnected,
-            atn: false,
-            ack: false,
-            reported: Noted::NoPhase,
-            last: Noted::NoPhase,
-            identity: Identity { number: 0 },
-            elapsed: 0,
-        },
-    }
-}
-
 // Bytes 0 to 2 of the image of s.
 fn put_head(s: State, image: &mut [u8])
-    requires { ⌜ length (now image) ≡ 53 ⌝ }
+    requires { ⌜ length (now image) ≡ imageLength ⌝ }
     ensures { λ _. ⌜ now (image .exit) ≡ sets (now (image .entry)) 0 (headBytes s) ⌝ }
 {
-    image[0] = s.registers.own;
-    image[1] = s.registers.control;
-    image[2] = s.registers.timeout;
+    image[0] = s.registers.setup.own;
+    image[1] = s.registers.setup.control;
+    image[2] = s.registers.setup.timeout;
 }
 
 // Bytes 15 to 22: the registers after the command bytes.
 fn put_registers(s: State, image: &mut [u8])
-    requires { ⌜ length (now image) ≡ 53 ⌝ }
+    requires { ⌜ length (now image) ≡ imageLength ⌝ }
     ensures { λ _. ⌜ now (image .exit) ≡ sets (now (image .entry)) 15 (take 8 (middleBytes s)) ⌝ }
 {
     let registers = s.registers;
-    image[15] = registers.lun;
-    image[16] = registers.phase;
-    image[17] = registers.synchronous;
+    image[15] = registers.descriptor.lun;
+    image[16] = registers.descriptor.phase;
+    image[17] = registers.setup.synchronous;
     image[18] = high_byte(registers.count);
     image[19] = middle_byte(registers.count);
-    image[20] = low_byte(registers.count);
+    image[20] = lines::low_byte(registers.count);
     image[21] = registers.destination;
     image[22] = registers.source;
 }
 
 // Bytes 23 to 29: what the host sees beside them.
 fn put_status(s: State, image: &mut [u8])
-    requires { ⌜ length (now image) ≡ 53 ⌝ }
+    requires { ⌜ length (now image) ≡ imageLength ⌝ }
     ensures { λ _. ⌜ now (image .exit) ≡ sets (now (image .entry)) 23 (take 7 (drop 8 (middleBytes s))) ⌝ }
 {
     let status = s.status;
@@ -242,35 +191,34 @@ fn put_status(s: State, image: &mut [u8])
     image[29] = ending_byte(pending);
 }
 
-// Bytes 30 to 40: the bus, the running command, and how many bytes wait.
+// Bytes 30 to 39: the bus and the running command.
 fn put_rest(s: State, image: &mut [u8])
-    requires { ⌜ length (now image) ≡ 53 ⌝ }
+    requires { ⌜ length (now image) ≡ imageLength ⌝ }
     ensures { λ _. ⌜ now (image .exit) ≡ sets (now (image .entry)) 30 (drop 15 (middleBytes s)) ⌝ }
 {
-    let fifo = s.fifo;
     let transfer = s.transfer;
     let wire = s.wire;
     let connection = wire.connection;
     let running = transfer.running;
     let direction = transfer.direction;
-    let reported = wire.reported;
-    let last = wire.last;
-    image[30] = connection_byte(connection);
-    image[31] = running_byte(running);
+    let seen = wire.seen;
+    let reported = seen.reported;
+    let last = seen.last;
+    image[30] = connections::connection_number(connection);
+    image[31] = running::running_number(running);
     image[32] = direction_byte(direction);
-    image[33] = bit_of(transfer.one);
-    image[34] = bit_of(wire.atn);
-    image[35] = bit_of(wire.ack);
+    image[33] = bit_of(transfer.single);
+    image[34] = bit_of(wire.handshake.atn);
+    image[35] = bit_of(wire.handshake.ack);
     image[36] = noted_byte(reported);
     image[37] = noted_byte(last);
     image[38] = wire.identity.number;
     image[39] = wire.elapsed;
-    image[40] = fifo.held;
 }
 
-// Bytes 15 to 40.
+// Bytes 15 to 39.
 fn put_middle(s: State, image: &mut [u8])
-    requires { ⌜ length (now image) ≡ 53 ⌝ }
+    requires { ⌜ length (now image) ≡ imageLength ⌝ }
     ensures { λ _. ⌜ now (image .exit) ≡ sets (now (image .entry)) 15 (middleBytes s) ⌝ }
 {
     put_registers(s, image);
@@ -279,15 +227,15 @@ fn put_middle(s: State, image: &mut [u8])
 }
 
 pub(crate) fn put_image(s: State, image: &mut [u8])
-    requires { ⌜ length (now image) ≡ 53 ⌝ }
+    requires { ⌜ length (now image) ≡ imageLength ⌝ }
     ensures { λ _. ⌜ now (image .exit) ≡ imageOf s ⌝ }
 {
     let registers = s.registers;
-    let cdb = registers.cdb;
-    let fifo = s.fifo;
-    let bytes = fifo.bytes;
+    let descriptor = registers.descriptor;
+    let cdb = descriptor.cdb;
+    let q = s.fifo;
     put_head(s, image);
     put(&cdb, 3, image);
     put_middle(s, image);
-    put(&bytes, 41, image);
+    store::fifo(q, image);
 }

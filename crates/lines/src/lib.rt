@@ -1,7 +1,7 @@
 // Bits: auxiliary status, the bits of registers, the eight data lines, and identities, by shifts, masks and counts.
 // The rooms above call it. Each function is, on every input, the definition that its contract names, of chip's specs/Lines.antt.
 ghost use mathlib.Core.Path.{_≡_};
-ghost use Prim.Native.Nat.{_<_};
+ghost use Prim.Native.Nat.{_<_, _%_};
 ghost use Rattle.chip.specs.Lines.{
   isOn,
   packed,
@@ -36,6 +36,13 @@ fn is_on(k: u8, b: u8) -> bool
     b >> k & 1 == 1
 }
 
+// Bits 7 to 0 of n.
+pub fn low_byte(n: u32) -> u8
+    ensures { λ r. ⌜ r ≡ n % 256 ⌝ }
+{
+    (n & 0xff) as u8
+}
+
 pub fn packed(int: bool, lci: bool, bsy: bool, pe: bool, dbr: bool) -> u8
     ensures { λ r. ⌜ r ≡ packed int lci bsy pe dbr ⌝ }
 {
@@ -45,13 +52,13 @@ pub fn packed(int: bool, lci: bool, bsy: bool, pe: bool, dbr: bool) -> u8
 pub fn hsp(s: State) -> bool
     ensures { λ r. ⌜ r ≡ hsp s ⌝ }
 {
-    is_on(0, s.registers.control)
+    is_on(0, s.registers.setup.control)
 }
 
 pub fn idi(s: State) -> bool
     ensures { λ r. ⌜ r ≡ idi s ⌝ }
 {
-    is_on(2, s.registers.control)
+    is_on(2, s.registers.setup.control)
 }
 
 pub fn with_idi(b: u8) -> u8
@@ -102,7 +109,7 @@ pub fn lun_of(s: State) -> Lun
     ensures { λ r. ⌜ r ≡ lunOf s ⌝ }
 {
     Lun {
-        number: s.registers.lun & 7,
+        number: s.registers.descriptor.lun & 7,
     }
 }
 

@@ -14,10 +14,12 @@ use borrow.Author.Tests.{eqb-true, not-true}
 use Rattle.chip.specs.Choice.{pick, both, either}
 use Rattle.chip.specs.Lines.{codeOf, ownIdentity}
 use Rattle.chip.specs.Fifo.{isEmpty}
-use Rattle.chip.specs.Count.{loaded, loadedInfo}
-use Rattle.chip.specs.Interrupts.{isEnding, isInterrupt, isRunning, busy, interrupt}
+use Rattle.chip.specs.Count.{loaded, loadedForTransferInfo}
+use Rattle.chip.specs.Interrupts.{isEnding, isInterrupt, busy, interrupt}
+use Rattle.chip.specs.Running.{isRunning}
 use Rattle.chip.specs.SelectAndTransfer.{fromDisconnected, resumed}
-use Rattle.chip.specs.Commands.{leftOut, table, entryOf, isTwo, isConnected, isDisconnected, isPlace, isReady, isValid, reset, aborted, disconnected, selecting, transferring, wayOf, informing, carriedOut, accepted, isRefusedBusy, commanded}
+use Rattle.chip.specs.Commands.{leftOut, table, entryOf, isTwo, isPlace, isReady, isValid, reset, aborted, disconnected, selecting, selectAndTransferBegun, wayOf, transferInfoBegun, carriedOut, accepted, isRefusedBusy, commanded}
+use Rattle.chip.specs.Connections.{isConnected, isDisconnected}
 use Rattle.chip.specs.declared.State.{State}
 use Rattle.chip.specs.declared.Entry.{Entry}
 use Rattle.chip.specs.declared.Place.{Place}
@@ -26,15 +28,16 @@ use Rattle.chip.specs.declared.Fifo.{Fifo}
 use Rattle.chip.specs.declared.Pending.{Pending}
 use Rattle.chip.specs.declared.Pending.the-variants.{Nothing, Interrupt, Ending, ReadOut}
 use Rattle.chip.specs.declared.Running.{Running}
-use Rattle.chip.specs.declared.Running.the-variants.{Idle, SelectWithAtn, SelectWithoutAtn, TransferWithAtn, TransferWithoutAtn}
+use Rattle.chip.specs.declared.Running.the-variants.{Idle, SelectWithAtn, SelectWithoutAtn, SelectAndTransferWithAtn, SelectAndTransferWithoutAtn}
 use Rattle.chip.specs.declared.Connection.{Connection}
 use Rattle.chip.specs.declared.Direction.{Direction}
 use Rattle.chip.specs.declared.Noted.{Noted}
 use Rattle.chip.proofs.Cases.{by-pick, by-case, both-first, both-second, either-first, either-second, either-last}
 use Rattle.chip.specs.Interrupts.{isOutgoing}
-use Rattle.reached.specs.Sound.{Placed, apart, joined, unfixed, none, Shape, idle, selects, waits, transfers, informs, ending, readOut, Transfers, with-atn, without-atn, transfer, info, Selects, six, seven}
-use Rattle.reached.proofs.Fifos.{Whole, none-whole}
-use Rattle.reached.proofs.Shapes.{Numbered, Good, so, Fine, being, clash, empty-way, raised, ended, transfers-run, moves-run, selects-run, transfers-selects}
+use Rattle.reached.specs.Sound.{Placed, apart, joined, unfixed, none, Shape, idle, selects, waits, selectsAndTransfers, transfersInfo, ending, readOut, SelectsAndTransfers, with-atn, without-atn, select-and-transfer, transfer-info, Selects, six, seven}
+use Rattle.chip.specs.Fifo.{Whole}
+use Rattle.chip.proofs.FifoLaws.{keeps-bytes}
+use Rattle.reached.proofs.Shapes.{Numbered, Good, so, Fine, being, clash, empty-way, raised, ended, selects-and-transfers-run, moves-run, selects-run, transfers-selects}
 
 -- ---- the table
 
@@ -96,40 +99,40 @@ nothing Interrupt e i = absurd (true≢false i)
 nothing (Ending c) e i = absurd (true≢false e)
 nothing ReadOut e i = absurd (true≢false e)
 
-resting : {one : Bool} {n : ℕ} {p : Pending} {r : Running} {c : Connection} {d : Direction} {q : Fifo} {atn ack : Bool} {w : Noted}
-    → Shape one n p r c d q atn ack w → isInterrupt p ≡ false → either (isRunning r) (isEnding p) ≡ false → Rest p r c d q atn ack
+resting : {single : Bool} {n : ℕ} {p : Pending} {r : Running} {c : Connection} {d : Direction} {q : Fifo} {atn ack : Bool} {w : Noted}
+    → Shape single n p r c d q atn ack w → isInterrupt p ≡ false → either (isRunning r) (isEnding p) ≡ false → Rest p r c d q atn ack
 resting {p = p} (idle e o h l) i b = rw (nothing p e i) (rest o h l)
 resting (selects k o h) i b = clash (selects-run k) (either-first _ _ b)
-resting (waits k h) i b = clash (transfers-run k) (either-first _ _ b)
-resting (transfers k h) i b = clash (transfers-run k) (either-first _ _ b)
-resting (informs h e) i b = absurd (true≢false (either-first _ _ b))
+resting (waits k h) i b = clash (selects-and-transfers-run k) (either-first _ _ b)
+resting (selectsAndTransfers k h) i b = clash (selects-and-transfers-run k) (either-first _ _ b)
+resting (transfersInfo h e) i b = absurd (true≢false (either-first _ _ b))
 resting (ending k h l) i b = clash (moves-run k) (either-first _ _ b)
-resting (readOut k h) i b = clash (transfers-run k) (either-first _ _ b)
+resting (readOut k h) i b = clash (selects-and-transfers-run k) (either-first _ _ b)
 
 -- ATN and held ACK may be anything when connected
-lines : {one : Bool} {n : ℕ} {p : Pending} {r : Running} {c : Connection} {d : Direction} {q : Fifo} {atn ack : Bool} {w : Noted} (x y : Bool)
-    → Shape one n p r c d q atn ack w → isConnected c ≡ true → Shape one n p r c d q x y w
+lines : {single : Bool} {n : ℕ} {p : Pending} {r : Running} {c : Connection} {d : Direction} {q : Fifo} {atn ack : Bool} {w : Noted} (x y : Bool)
+    → Shape single n p r c d q atn ack w → isConnected c ≡ true → Shape single n p r c d q x y w
 lines x y (idle e o h apart) f = absurd (false≢true f)
 lines x y (idle e o h joined) f = idle e o h joined
 lines x y (selects k o h) f = absurd (false≢true f)
 lines x y (waits k h) f = absurd (false≢true f)
-lines x y (transfers k h) f = transfers k h
-lines x y (informs h e) f = informs h e
+lines x y (selectsAndTransfers k h) f = selectsAndTransfers k h
+lines x y (transfersInfo h e) f = transfersInfo h e
 lines x y (ending k h apart) f = absurd (false≢true f)
 lines x y (ending k h joined) f = ending k h joined
 lines x y (readOut k h) f = absurd (false≢true f)
 
 module _ (s : State) (n : Numbered s) where
   abort : {p : Pending} {r : Running} {c : Connection} {d : Direction} {q : Fifo} {atn ack : Bool} {w : Noted}
-      → Whole q → Shape (s .transfer .one) (s .registers .count) p r c d q atn ack w → isEnding p ≡ false → either (isRunning r) (isEnding p) ≡ true
+      → Whole q → Shape (s .transfer .single) (s .registers .count) p r c d q atn ack w → isEnding p ≡ false → either (isRunning r) (isEnding p) ≡ true
       → Good (aborted (being p r c d q atn ack w s))
   unfolding aborted either
   abort u (idle e o h l) f b = clash b e
   abort u (selects k o h) f b = by-case Good _ (λ e. absurd (false≢true e)) (λ e. raised 0x22 _ n u apart (none h))
   abort u (waits k h) f b = by-case Good _ (λ e. absurd (false≢true e)) (λ e. raised 0x22 _ n u apart h)
-  abort u (transfers k h) f b =
-      by-case Good _ (λ e. ended _ _ n u joined (transfer k) h) (λ e. absurd (true≢false e))
-  abort u (informs h x) f b = by-case Good _ (λ e. ended _ _ n u joined info h) (λ e. absurd (true≢false e))
+  abort u (selectsAndTransfers k h) f b =
+      by-case Good _ (λ e. ended _ _ n u joined (select-and-transfer k) h) (λ e. absurd (true≢false e))
+  abort u (transfersInfo h x) f b = by-case Good _ (λ e. ended _ _ n u joined transfer-info h) (λ e. absurd (true≢false e))
   abort u (ending k h l) f b = absurd (true≢false f)
   abort u (readOut k h) f b = absurd (true≢false f)
 
@@ -140,22 +143,22 @@ module _ (s : State) (n : Numbered s) where
   select x k w u (rest o h apart) e = so _ n u (selects k o h)
   select x k w u (rest o h joined) e = absurd (false≢true e)
 
-  begin : (x : Running) → Transfers x
+  begin : (x : Running) → SelectsAndTransfers x
       → {p : Pending} {r : Running} {c : Connection} {d : Direction} {q : Fifo} {atn ack : Bool} (w : Noted)
-      → Whole q → Rest p r c d q atn ack → Good (transferring x (being p r c d q atn ack w s))
-  unfolding transferring resumed selecting fromDisconnected loaded isEmpty
+      → Whole q → Rest p r c d q atn ack → Good (selectAndTransferBegun x (being p r c d q atn ack w s))
+  unfolding selectAndTransferBegun resumed selecting fromDisconnected loaded isEmpty
   begin x k w u (rest o h apart) =
-      by-case Good _ (λ e. absurd (false≢true e)) (λ e. so _ n none-whole (selects (transfers-selects k) refl refl))
+      by-case Good _ (λ e. absurd (false≢true e)) (λ e. so _ n (keeps-bytes .begins-whole) (selects (transfers-selects k) refl refl))
   begin x k w u (rest o h joined) =
       by-case Good _
       (λ e.
-      by-pick Good _ (ended 0x16 _ n none-whole joined (transfer k) (unfixed refl))
-      (so _ n none-whole (transfers k (unfixed refl))))
+      by-pick Good _ (ended 0x16 _ n (keeps-bytes .begins-whole) joined (select-and-transfer k) (unfixed refl))
+      (so _ n (keeps-bytes .begins-whole) (selectsAndTransfers k (unfixed refl))))
       (λ e. absurd (true≢false e))
 
   inform : (single : Bool) {p : Pending} {r : Running} {c : Connection} {d : Direction} {q : Fifo} {atn ack : Bool} (w : Noted)
-      → Whole q → Rest p r c d q atn ack → isConnected c ≡ true → Good (informing single (being p r c d q atn ack w s))
-  unfolding informing loadedInfo isEmpty
+      → Whole q → Rest p r c d q atn ack → isConnected c ≡ true → Good (transferInfoBegun single (being p r c d q atn ack w s))
+  unfolding transferInfoBegun loadedForTransferInfo isEmpty
   inform single w u (rest o h apart) e = absurd (false≢true e)
   inform single w u (rest o h joined) e =
       so _
@@ -164,7 +167,7 @@ module _ (s : State) (n : Numbered s) where
         count-below = by-pick (λ (x : ℕ). x < 16777216) _ (omega arith) (n .count-below);
         identity-below = n .identity-below;
       })
-      none-whole (informs (empty-way (wayOf w) refl) refl)
+      (keeps-bytes .begins-whole) (transfersInfo (empty-way (wayOf w) refl) refl)
 
 -- ---- the tests before a command
 
@@ -198,7 +201,7 @@ forty-shape s n b w u (rest o h l) = so _ n u (idle refl o h l)
 
 module _ (s : State) (n : Numbered s) (k : ℕ) (single : Bool) where
   carried-out : {p : Pending} {r : Running} {a : Connection} {d : Direction} {q : Fifo} {atn ack : Bool} {w : Noted}
-      → Whole q → Shape (s .transfer .one) (s .registers .count) p r a d q atn ack w → isInterrupt p ≡ false → isPlace (entryOf k .place) a ≡ true
+      → Whole q → Shape (s .transfer .single) (s .registers .count) p r a d q atn ack w → isInterrupt p ≡ false → isPlace (entryOf k .place) a ≡ true
       → (isTwo (entryOf k .level) ≡ true → either (isRunning r) (isEnding p) ≡ false)
       → (eqb k 0x01 ≡ true → both (either (isRunning r) (isEnding p)) (not (isEnding p)) ≡ true)
       → eqb k 0x00 ≡ false
@@ -212,15 +215,15 @@ module _ (s : State) (n : Numbered s) (k : ℕ) (single : Bool) where
       λ n1.
       by-case Good _ (λ e. so _ n u (lines true ack g (placed k 0x02 a e l))) λ n2.
       by-case Good _ (λ e. so _ n u (lines atn false g (placed k 0x03 a e l))) λ n3.
-      by-case Good _ (λ e. so _ n none-whole (idle refl refl refl apart)) λ n4.
+      by-case Good _ (λ e. so _ n (keeps-bytes .begins-whole) (idle refl refl refl apart)) λ n4.
       by-case Good _
       (λ e. select s n SelectWithAtn six w u (resting g i (calm (levelled k 0x06 e refl))) (placed k 0x06 a e l))
       λ n6.
       by-case Good _
       (λ e. select s n SelectWithoutAtn seven w u (resting g i (calm (levelled k 0x07 e refl))) (placed k 0x07 a e l))
       λ n7.
-      by-case Good _ (λ e. begin s n TransferWithAtn with-atn w u (resting g i (calm (levelled k 0x08 e refl)))) λ n8.
-      by-case Good _ (λ e. begin s n TransferWithoutAtn without-atn w u (resting g i (calm (levelled k 0x09 e refl)))) λ n9.
+      by-case Good _ (λ e. begin s n SelectAndTransferWithAtn with-atn w u (resting g i (calm (levelled k 0x08 e refl)))) λ n8.
+      by-case Good _ (λ e. begin s n SelectAndTransferWithoutAtn without-atn w u (resting g i (calm (levelled k 0x09 e refl)))) λ n9.
       by-case Good _ (λ e. so _ n u g)
       λ n15.
       let x : isLikeInfo (entryOf k) ≡ true = as-info k (unlisted k n0 n1 n2 n3 n4 n6 n7 n8 n9 n15) in
@@ -234,7 +237,7 @@ module _ (b : ℕ) (s : State) (g : Good s) where
   reset-kept : Good (reset b s)
   unfolding reset ownIdentity isEmpty
   reset-kept =
-      so _ (record { cdb-long = refl; count-below = omega arith; identity-below = omega arith }) none-whole
+      so _ (record { cdb-long = refl; count-below = omega arith; identity-below = omega arith }) (keeps-bytes .begins-whole)
       (idle refl refl refl apart)
 
   calm : isRefusedBusy code s ≡ false → isTwo (entryOf code .level) ≡ true
@@ -246,7 +249,7 @@ module _ (b : ℕ) (s : State) (g : Good s) where
       → Good (interrupt 0x40 (accepted b s))
   unfolding isRefusedBusy busy accepted
   forty i f v =
-      forty-shape s (g .numbers) b (s .wire .reported) (g .whole)
+      forty-shape s (g .numbers) b (s .wire .seen .reported) (g .whole)
       (resting (g .shape) i
       (refused _ (either (isTwo (entryOf code .level)) (not (isValid code s))) f (rw v (either-last (isTwo (entryOf code .level))))))
 

@@ -6,14 +6,14 @@ use mathlib.Core.Bool.{Bool, true, false, true≢false, false≢true}
 use mathlib.Core.List.{List}
 use Prim.Native.Nat.{ℕ, _≤_}
 use Rattle.chip.specs.Fifo as F
-use Rattle.chip.specs.Count.{left}
+use Rattle.chip.specs.Count.{left, dbr, dbrBy}
 use Rattle.chip.specs.Choice.{pick, both, either}
 use Rattle.chip.specs.State.{fresh}
 use Rattle.chip.specs.Fifo.{isEmpty}
-use Rattle.chip.specs.Interrupts.{isInterrupt, isEnding, isRunning, busy, unread}
-use Rattle.chip.specs.TransferInfo.{dbr, dbrBy}
-use Rattle.chip.specs.Commands.{isConnected, isDisconnected}
-use Rattle.chip.specs.Calls.{Call, after}
+use Rattle.chip.specs.Interrupts.{isInterrupt, isEnding, busy, bytesUnread}
+use Rattle.chip.specs.Running.{isRunning}
+use Rattle.chip.specs.Connections.{isConnected, isDisconnected}
+use Rattle.chip.specs.Calls.{Call, step, run}
 use Rattle.chip.specs.declared.State.{State}
 use Rattle.chip.specs.declared.Fifo.{Fifo}
 use Rattle.chip.specs.declared.Pending.{Pending}
@@ -26,15 +26,15 @@ use Rattle.chip.specs.declared.Direction.{Direction}
 use Rattle.chip.specs.declared.Direction.the-variants.{Unfixed, In, Out}
 use Rattle.chip.specs.declared.Noted.{Noted}
 use Rattle.chip.specs.Interrupts.{isOutgoing}
-use Rattle.reached.specs.Sound.{Way, unfixed, incoming, outgoing, isUnread, Placed, apart, joined, Shape, idle, selects, waits, transfers, informs, ending, readOut, with-atn, without-atn, Moves, transfer, info, Sound}
+use Rattle.reached.specs.Sound.{Way, unfixed, incoming, outgoing, isUnread, Placed, apart, joined, Shape, idle, selects, waits, selectsAndTransfers, transfersInfo, ending, readOut, with-atn, without-atn, Moves, select-and-transfer, transfer-info, Sound}
 use Rattle.reached.specs.Facts.{isReadOut, isSelect, Runs, Facts}
-use Rattle.reached.proofs.Shapes.{clash, drained-way, transfers-run, moves-run}
+use Rattle.reached.proofs.Shapes.{clash, drained-way, selects-and-transfers-run, moves-run}
 use Rattle.reached.proofs.Laws.{reached}
 
 moves-no-select : {r : Running} → Moves r → isSelect r ≡ false
-moves-no-select (transfer with-atn) = refl
-moves-no-select (transfer without-atn) = refl
-moves-no-select info = refl
+moves-no-select (select-and-transfer with-atn) = refl
+moves-no-select (select-and-transfer without-atn) = refl
+moves-no-select transfer-info = refl
 
 -- the facts of a shape
 record Shown (p : Pending) (r : Running) (c : Connection) (d : Direction) (q : Fifo) (atn ack : Bool) : Type 0 where
@@ -97,8 +97,8 @@ at-rest {p = p} e o h joined =
       runs = refl;
     }
 
-shown : {one : Bool} {n : ℕ} {p : Pending} {r : Running} {c : Connection} {d : Direction} {q : Fifo} {atn ack : Bool} {w : Noted}
-    → Shape one n p r c d q atn ack w → Shown p r c d q atn ack
+shown : {single : Bool} {n : ℕ} {p : Pending} {r : Running} {c : Connection} {d : Direction} {q : Fifo} {atn ack : Bool} {w : Noted}
+    → Shape single n p r c d q atn ack w → Shown p r c d q atn ack
 shown (idle e o h l) = at-rest e o h l
 shown (selects k o h) =
     record {
@@ -120,12 +120,12 @@ shown (waits k h) =
       ending-waits = λ f. absurd (false≢true f);
       ending-runs = λ f. absurd (false≢true f);
       read-out-apart = λ f. absurd (false≢true f);
-      idle-empty = λ f. clash (transfers-run k) f;
-      idle-shut = λ f. clash (transfers-run k) f;
+      idle-empty = λ f. clash (selects-and-transfers-run k) f;
+      idle-shut = λ f. clash (selects-and-transfers-run k) f;
       runs = k;
     }
-shown (transfers k h) = moving (transfer k)
-shown (informs h e) = moving info
+shown (selectsAndTransfers k h) = moving (select-and-transfer k)
+shown (transfersInfo h e) = moving transfer-info
 shown (ending k h apart) =
     record {
       atn-apart = λ f. refl;
@@ -156,11 +156,11 @@ shown (readOut k h) =
       ack-apart = λ f. refl;
       int-idle = λ f. absurd (false≢true f);
       ending-waits = λ f. h;
-      ending-runs = λ f. transfers-run k;
+      ending-runs = λ f. selects-and-transfers-run k;
       read-out-apart = λ f. refl;
-      idle-empty = λ f. clash (transfers-run k) f;
-      idle-shut = λ f. clash (transfers-run k) f;
-      runs = transfers-run k;
+      idle-empty = λ f. clash (selects-and-transfers-run k) f;
+      idle-shut = λ f. clash (selects-and-transfers-run k) f;
+      runs = selects-and-transfers-run k;
     }
 
 not-out : (d : Direction) (q : Fifo) → isUnread d q ≡ true → isOutgoing d ≡ false
@@ -169,18 +169,18 @@ not-out Unfixed q h = refl
 not-out In q h = refl
 not-out Out q h = absurd (false≢true h)
 
-way-left : {one : Bool} {n : ℕ} {d : Direction} {q : Fifo} → Way one n d q → isOutgoing d ≡ true → q .held ≤ pick one 1 n
+way-left : {single : Bool} {n : ℕ} {d : Direction} {q : Fifo} → Way single n d q → isOutgoing d ≡ true → F.waits q ≤ pick single 1 n
 way-left (unfixed h) o = absurd (false≢true o)
 way-left incoming o = absurd (false≢true o)
 way-left (outgoing h) o = h
 
-out-left : {one : Bool} {n : ℕ} {p : Pending} {r : Running} {c : Connection} {d : Direction} {q : Fifo} {atn ack : Bool} {w : Noted}
-    → Shape one n p r c d q atn ack w → isOutgoing d ≡ true → isRunning r ≡ true → q .held ≤ pick one 1 n
+out-left : {single : Bool} {n : ℕ} {p : Pending} {r : Running} {c : Connection} {d : Direction} {q : Fifo} {atn ack : Bool} {w : Noted}
+    → Shape single n p r c d q atn ack w → isOutgoing d ≡ true → isRunning r ≡ true → F.waits q ≤ pick single 1 n
 out-left (idle e o h l) f r = clash f o
 out-left (selects k o h) f r = clash f o
 out-left (waits k h) f r = way-left (drained-way h) f
-out-left (transfers k h) f r = way-left h f
-out-left (informs h e) f r = way-left h f
+out-left (selectsAndTransfers k h) f r = way-left h f
+out-left (transfersInfo h e) f r = way-left h f
 out-left {d = d} {q = q} (ending k h l) f r = clash f (not-out d q h)
 out-left {d = d} {q = q} (readOut k h) f r = clash f (not-out d q h)
 
@@ -198,7 +198,7 @@ shut In s h o = rw h
 shut Out s h o = absurd (true≢false o)
 
 pub facts : {s : State} → Sound s → Facts s
-unfolding busy unread dbr F.waits left
+unfolding busy bytesUnread dbr F.waits left
 facts {s} x =
     let f = shown (x .shape) in
     record {
@@ -215,5 +215,5 @@ facts {s} x =
       out-left = out-left (x .shape);
     }
 
-pub reached-facts : (l : List Call) → Facts (after l fresh)
+pub reached-facts : (l : List Call) → Facts (run step l fresh)
 reached-facts l = facts (reached l)

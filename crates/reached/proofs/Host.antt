@@ -10,13 +10,14 @@ use lib.Dec.{ltb}
 use lib.ListN.{length-set}
 use borrow.Author.Tests.{not-true, ltb-true}
 use Rattle.chip.specs.Choice.{pick, both, either}
-use Rattle.chip.specs.State.{setPending}
+use Rattle.chip.specs.State.{setPending, setRegisters}
 use Rattle.chip.specs.Fifo.{isEmpty, hasRoom, pop, push}
 use Rattle.chip.specs.Fifo as F
-use Rattle.chip.specs.Count.{left}
-use Rattle.chip.specs.Interrupts.{isEnding, isRunning, settledBy, settled, withoutInterrupt}
-use Rattle.chip.specs.TransferInfo.{dbr}
-use Rattle.chip.specs.Registers.{highWritten, middleWritten, lowWritten, stored, dataReadBy, dataRead, dataWrittenBy, dataWritten, Moved, goOn, andThen, stopped, blockRead, blockWritten}
+use Rattle.chip.specs.Count.{left, dbr}
+use Rattle.chip.specs.Interrupts.{isEnding, settledBy, settled, withoutInterrupt}
+use Rattle.chip.specs.Running.{isRunning}
+use Rattle.chip.specs.Registers.{highWritten, middleWritten, lowWritten, stored, dataReadBy, dataRead, dataWrittenBy, dataWritten, Moved, goOn, andThen, stopped, blockRead, blockWritten, storedIn}
+use Rattle.chip.specs.declared.Registers.{Registers}
 use Rattle.chip.specs.declared.State.{State}
 use Rattle.chip.specs.declared.Answer.{Answer}
 use Rattle.chip.specs.declared.Answer.the-variants.{Done, Held, OutOfPlace, BadNumber, Blind, CommandIgnored, ReselectionIgnored, NoDataNow, Reported}
@@ -29,9 +30,10 @@ use Rattle.chip.specs.declared.Direction.{Direction}
 use Rattle.chip.specs.declared.Direction.the-variants.{Unfixed, In, Out}
 use Rattle.chip.specs.declared.Noted.{Noted}
 use Rattle.chip.proofs.Cases.{by-pick, by-case, both-first, either-first}
-use Rattle.reached.specs.Sound.{isUnread, outgoing, none, out, Shape, idle, selects, waits, transfers, informs, ending, readOut}
-use Rattle.reached.proofs.Fifos.{Whole, pop-whole, push-whole}
-use Rattle.reached.proofs.Shapes.{Numbered, Good, so, Fine, being, clash, fewer, pop-way, raised, transfers-run}
+use Rattle.reached.specs.Sound.{isUnread, outgoing, none, out, Shape, idle, selects, waits, selectsAndTransfers, transfersInfo, ending, readOut}
+use Rattle.chip.specs.Fifo.{Whole}
+use Rattle.chip.proofs.FifoLaws.{keeps-bytes, pop-waits, push-waits}
+use Rattle.reached.proofs.Shapes.{Numbered, Good, so, Fine, being, clash, pop-way, raised, selects-and-transfers-run}
 
 -- ---- the Data register
 
@@ -43,26 +45,26 @@ still Out q x h e = h
 
 module _ (s : State) (n : Numbered s) where
   settles : {p : Pending} {r : Running} {c : Connection} {d : Direction} {q : Fifo} {atn ack : Bool} {w : Noted}
-      → Whole q → isEmpty q ≡ false → Shape (s .transfer .one) (s .registers .count) p r c d q atn ack w → Good (settled (being p r c d (pop q) atn ack w s))
+      → Whole q → isEmpty q ≡ false → Shape (s .transfer .single) (s .registers .count) p r c d q atn ack w → Good (settled (being p r c d (pop q) atn ack w s))
   unfolding settled settledBy
   settles u f (idle e o h l) = clash h f
   settles u f (selects k o h) = clash h f
   settles u f (waits k (none h)) = clash h f
   settles {q = q} u f (waits k (out h)) =
-      by-pick Good _ (so _ n (pop-whole q u) (waits k (out (fewer q _ h)))) (so _ n (pop-whole q u) (waits k (out (fewer q _ h))))
-  settles {q = q} u f (transfers k h) =
-      by-pick Good _ (so _ n (pop-whole q u) (transfers k (pop-way h))) (so _ n (pop-whole q u) (transfers k (pop-way h)))
-  settles {q = q} u f (informs h e) =
-      by-pick Good _ (so _ n (pop-whole q u) (informs (pop-way h) e)) (so _ n (pop-whole q u) (informs (pop-way h) e))
+      by-pick Good _ (so _ n (keeps-bytes .pop-whole q u) (waits k (out (pop-waits q _ h)))) (so _ n (keeps-bytes .pop-whole q u) (waits k (out (pop-waits q _ h))))
+  settles {q = q} u f (selectsAndTransfers k h) =
+      by-pick Good _ (so _ n (keeps-bytes .pop-whole q u) (selectsAndTransfers k (pop-way h))) (so _ n (keeps-bytes .pop-whole q u) (selectsAndTransfers k (pop-way h)))
+  settles {q = q} u f (transfersInfo h e) =
+      by-pick Good _ (so _ n (keeps-bytes .pop-whole q u) (transfersInfo (pop-way h) e)) (so _ n (keeps-bytes .pop-whole q u) (transfersInfo (pop-way h) e))
   settles {d = d} {q = q} u f (ending k h l) =
-      by-case Good _ (λ e. raised _ _ n (pop-whole q u) l (none e))
-      (λ e. so _ n (pop-whole q u) (ending k (still d q (pop q) h e) l))
+      by-case Good _ (λ e. raised _ _ n (keeps-bytes .pop-whole q u) l (none e))
+      (λ e. so _ n (keeps-bytes .pop-whole q u) (ending k (still d q (pop q) h e) l))
   settles {d = d} {q = q} u f (readOut k h) =
-      by-case Good _ (λ e. so _ n (pop-whole q u) (waits k (none e)))
-      (λ e. so _ n (pop-whole q u) (readOut k (still d q (pop q) h e)))
+      by-case Good _ (λ e. so _ n (keeps-bytes .pop-whole q u) (waits k (none e)))
+      (λ e. so _ n (keeps-bytes .pop-whole q u) (readOut k (still d q (pop q) h e)))
 
   data-read : (d : Direction) {p : Pending} {r : Running} {c : Connection} {q : Fifo} {atn ack : Bool} {w : Noted}
-      → Whole q → Shape (s .transfer .one) (s .registers .count) p r c d q atn ack w → Fine (dataReadBy d (being p r c d q atn ack w s))
+      → Whole q → Shape (s .transfer .single) (s .registers .count) p r c d q atn ack w → Fine (dataReadBy d (being p r c d q atn ack w s))
   unfolding dbr
   data-read Unfixed u g = so _ n u g
   data-read In {q = q} u g = by-case Fine _ (λ e. settles u (not-true (isEmpty q) e) g) (λ e. so _ n u g)
@@ -70,32 +72,30 @@ module _ (s : State) (n : Numbered s) where
 
   -- a byte more, going out
   more : (b : ℕ) {p : Pending} {r : Running} {c : Connection} {q : Fifo} {atn ack : Bool} {w : Noted}
-      → push b q .held ≤ pick (s .transfer .one) 1 (s .registers .count)
-      → Shape (s .transfer .one) (s .registers .count) p r c Out q atn ack w
-      → Shape (s .transfer .one) (s .registers .count) p r c Out (push b q) atn ack w
+      → F.waits (push b q) ≤ pick (s .transfer .single) 1 (s .registers .count)
+      → Shape (s .transfer .single) (s .registers .count) p r c Out q atn ack w
+      → Shape (s .transfer .single) (s .registers .count) p r c Out (push b q) atn ack w
   unfolding both
   more b v (idle e o h l) = absurd (true≢false o)
   more b v (selects k o h) = absurd (true≢false o)
   more b v (waits k h) = waits k (out v)
-  more b v (transfers k h) = transfers k (outgoing v)
-  more b v (informs h e) = informs (outgoing v) e
+  more b v (selectsAndTransfers k h) = selectsAndTransfers k (outgoing v)
+  more b v (transfersInfo h e) = transfersInfo (outgoing v) e
   more b v (ending k h l) = absurd (false≢true h)
   more b v (readOut k h) = absurd (false≢true h)
 
-  room : (b : ℕ) (q : Fifo) → both (ltb (F.waits q) (pick (s .transfer .one) 1 (s .registers .count))) (hasRoom q) ≡ true
-      → push b q .held ≤ pick (s .transfer .one) 1 (s .registers .count)
-  unfolding push F.waits
+  room : (b : ℕ) (q : Fifo) → both (ltb (F.waits q) (pick (s .transfer .single) 1 (s .registers .count))) (hasRoom q) ≡ true
+      → F.waits (push b q) ≤ pick (s .transfer .single) 1 (s .registers .count)
   room b q e =
-      let m = pick (s .transfer .one) 1 (s .registers .count) in
-      let h : q .held < m = ltb-true (q .held) m (both-first _ (hasRoom q) e) in
-      by-pick (λ (x : Fifo). x .held ≤ m) _ (omega arith) (omega arith)
+      let m = pick (s .transfer .single) 1 (s .registers .count) in
+      omega (arith, ltb-true (F.waits q) m (both-first _ (hasRoom q) e), push-waits b q)
 
   data-written : (d : Direction) (b : ℕ) {p : Pending} {r : Running} {c : Connection} {q : Fifo} {atn ack : Bool} {w : Noted}
-      → Whole q → Shape (s .transfer .one) (s .registers .count) p r c d q atn ack w → Fine (dataWrittenBy d b (being p r c d q atn ack w s))
+      → Whole q → Shape (s .transfer .single) (s .registers .count) p r c d q atn ack w → Fine (dataWrittenBy d b (being p r c d q atn ack w s))
   unfolding dbr left
   data-written Unfixed b u g = so _ n u g
   data-written In b u g = so _ n u g
-  data-written Out b {q = q} u g = by-case Fine _ (λ e. so _ n (push-whole q u b) (more b (room b q e) g)) (λ e. so _ n u g)
+  data-written Out b {q = q} u g = by-case Fine _ (λ e. so _ n (keeps-bytes .push-whole q b u) (more b (room b q e) g)) (λ e. so _ n u g)
 
 pub data-read-kept : (s : State) → Good s → Fine (dataRead s)
 unfolding dataRead
@@ -133,37 +133,40 @@ block-written-kept (b ∷ l) s g =
 -- ---- the other registers
 
 -- where nothing is under way the count may be anything
-recount : {one : Bool} {n m : ℕ} {p : Pending} {r : Running} {c : Connection} {d : Direction} {q : Fifo} {atn ack : Bool} {w : Noted}
-    → Shape one n p r c d q atn ack w → either (isRunning r) (isEnding p) ≡ false → Shape one m p r c d q atn ack w
+recount : {single : Bool} {n m : ℕ} {p : Pending} {r : Running} {c : Connection} {d : Direction} {q : Fifo} {atn ack : Bool} {w : Noted}
+    → Shape single n p r c d q atn ack w → either (isRunning r) (isEnding p) ≡ false → Shape single m p r c d q atn ack w
 recount (idle e o h l) b = idle e o h l
 recount (selects k o h) b = selects k o h
-recount (waits k h) b = clash (transfers-run k) (either-first _ _ b)
-recount (transfers k h) b = clash (transfers-run k) (either-first _ _ b)
-recount (informs h e) b = absurd (true≢false (either-first _ _ b))
+recount (waits k h) b = clash (selects-and-transfers-run k) (either-first _ _ b)
+recount (selectsAndTransfers k h) b = clash (selects-and-transfers-run k) (either-first _ _ b)
+recount (transfersInfo h e) b = absurd (true≢false (either-first _ _ b))
 recount (ending k h l) b = ending k h l
 recount (readOut k h) b = readOut k h
 
 pub stored-kept : (a b : ℕ) (s : State) → b < 256 → either (isRunning (s .transfer .running)) (isEnding (s .status .pending)) ≡ false
     → Good s → Good (stored a b s)
-unfolding stored highWritten middleWritten lowWritten
+unfolding stored storedIn highWritten middleWritten lowWritten
 stored-kept a b s small calm g =
     let n = g .numbers in
     let c = n .count-below in
-    by-pick Good _ (so _ n (g .whole) (g .shape))
-    (by-pick Good _ (so _ n (g .whole) (g .shape))
-    (by-pick Good _ (so _ n (g .whole) (g .shape))
-    (by-pick Good _
+    by-pick Kept _ (so _ n (g .whole) (g .shape))
+    (by-pick Kept _ (so _ n (g .whole) (g .shape))
+    (by-pick Kept _ (so _ n (g .whole) (g .shape))
+    (by-pick Kept _
     (so _ (record { cdb-long = rw length-set (n .cdb-long); count-below = n .count-below; identity-below = n .identity-below }) (g .whole) (g .shape))
-    (by-pick Good _ (so _ n (g .whole) (g .shape))
-    (by-pick Good _ (so _ n (g .whole) (g .shape))
-    (by-pick Good _ (so _ n (g .whole) (g .shape))
-    (by-pick Good _
+    (by-pick Kept _ (so _ n (g .whole) (g .shape))
+    (by-pick Kept _ (so _ n (g .whole) (g .shape))
+    (by-pick Kept _ (so _ n (g .whole) (g .shape))
+    (by-pick Kept _
     (so _ (record { cdb-long = n .cdb-long; count-below = omega arith; identity-below = n .identity-below }) (g .whole) (recount (g .shape) calm))
-    (by-pick Good _
+    (by-pick Kept _
     (so _ (record { cdb-long = n .cdb-long; count-below = omega arith; identity-below = n .identity-below }) (g .whole) (recount (g .shape) calm))
-    (by-pick Good _
+    (by-pick Kept _
     (so _ (record { cdb-long = n .cdb-long; count-below = omega arith; identity-below = n .identity-below }) (g .whole) (recount (g .shape) calm))
-    (by-pick Good _ (so _ n (g .whole) (g .shape)) (so _ n (g .whole) (g .shape))))))))))))
+    (by-pick Kept _ (so _ n (g .whole) (g .shape)) (so _ n (g .whole) (g .shape))))))))))))
+  where
+    Kept : Registers → Type 0
+    Kept r = Good (setRegisters r s)
 
 quieter : (p : Pending) → isEnding p ≡ false → isEnding (withoutInterrupt p) ≡ false
 quieter Nothing e = e
@@ -171,13 +174,13 @@ quieter Interrupt e = e
 quieter (Ending c) e = e
 quieter ReadOut e = e
 
-read-shape : {one : Bool} {n : ℕ} {p : Pending} {r : Running} {c : Connection} {d : Direction} {q : Fifo} {atn ack : Bool} {w : Noted}
-    → Shape one n p r c d q atn ack w → Shape one n (withoutInterrupt p) r c d q atn ack w
+read-shape : {single : Bool} {n : ℕ} {p : Pending} {r : Running} {c : Connection} {d : Direction} {q : Fifo} {atn ack : Bool} {w : Noted}
+    → Shape single n p r c d q atn ack w → Shape single n (withoutInterrupt p) r c d q atn ack w
 read-shape {p = p} (idle e o h l) = idle (quieter p e) o h l
 read-shape (selects k o h) = selects k o h
 read-shape (waits k h) = waits k h
-read-shape (transfers k h) = transfers k h
-read-shape (informs h e) = informs h e
+read-shape (selectsAndTransfers k h) = selectsAndTransfers k h
+read-shape (transfersInfo h e) = transfersInfo h e
 read-shape (ending k h l) = ending k h l
 read-shape (readOut k h) = readOut k h
 

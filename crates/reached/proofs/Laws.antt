@@ -11,15 +11,16 @@ use Prim.Native.Nat.{ℕ, _<_}
 use borrow.Author.Tests.{ltb-true}
 use lib.Dec.{eqb}
 use Rattle.chip.specs.Choice.{either}
-use Rattle.chip.specs.Interrupts.{isEnding, isRunning, busy}
+use Rattle.chip.specs.Interrupts.{isEnding, busy}
+use Rattle.chip.specs.Running.{isRunning}
 use Rattle.chip.specs.State.{fresh}
 use Rattle.chip.specs.Fifo.{isEmpty}
 use Rattle.chip.specs.Phases.{phaseOf}
 use Rattle.chip.specs.Registers.{pointerRead, pointerSet, auxiliaryRead, isBlind, readAt, writtenAt, stepped, accessedAt, accessed, Moved}
-use Rattle.chip.specs.Calls.{Call, Outcome, pointer, auxiliary, register, block, time, answer, reselection, request, free, isMark, isGood, isSet, carried, step, after}
+use Rattle.chip.specs.Calls.{Call, Outcome, pointer, auxiliary, register, block, time, answer, reselection, request, free, isMark, isGood, isSet, carried, step, run}
 use Rattle.chip.specs.Image.{imageOf, isImage}
 use Rattle.chip.specs.declared.State.{State}
-use Rattle.image.proofs.Laws.{fresh-ok, image-valid}
+use Rattle.chip.proofs.ImageLaws.{fresh-ok, image-valid}
 use Rattle.chip.proofs.Cases.{by-pick, by-case, both-second, either-rest}
 use Rattle.reached.specs.Sound.{apart, idle, Sound, Kept}
 use Rattle.reached.proofs.Shapes.{Good, so, Fine}
@@ -83,7 +84,7 @@ pub by-parts : {s : State} → Sound s → Good s
 by-parts x =
     let o = x .ok in
     so _ (record { cdb-long = o .cdb-long; count-below = o .count-below; identity-below = o .identity-below })
-    (record { bytes-long = o .bytes-long; held-below = o .held-below; unused = o .unused }) (x .shape)
+    (o .fifo) (x .shape)
 
 pub of-parts : {s : State} → Good s → Sound s
 of-parts g =
@@ -93,11 +94,9 @@ of-parts g =
       ok =
           record {
             cdb-long = n .cdb-long;
-            bytes-long = u .bytes-long;
             count-below = n .count-below;
             identity-below = n .identity-below;
-            held-below = u .held-below;
-            unused = u .unused;
+            fifo = u;
           };
       shape = g .shape;
     }
@@ -109,13 +108,13 @@ pub fresh-sound : Sound fresh
 unfolding isEmpty
 fresh-sound = record { ok = fresh-ok; shape = idle refl refl refl apart }
 
-after-sound : (l : List Call) (s : State) → Sound s → Sound (after l s)
-unfolding after
-after-sound [] s x = x
-after-sound (c ∷ l) s x = after-sound l (step c s .state) (kept c s x)
+run-sound : (l : List Call) (s : State) → Sound s → Sound (run step l s)
+unfolding run
+run-sound [] s x = x
+run-sound (c ∷ l) s x = run-sound l (step c s .state) (kept c s x)
 
-pub reached : (l : List Call) → Sound (after l fresh)
-reached l = after-sound l fresh fresh-sound
+pub reached : (l : List Call) → Sound (run step l fresh)
+reached l = run-sound l fresh fresh-sound
 
-pub reached-image : (l : List Call) → isImage (imageOf (after l fresh)) ≡ true
-reached-image l = image-valid (after l fresh) (reached l .ok)
+pub reached-image : (l : List Call) → isImage (imageOf (run step l fresh)) ≡ true
+reached-image l = image-valid (run step l fresh) (reached l .ok)

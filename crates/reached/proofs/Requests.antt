@@ -1,7 +1,7 @@
 -- A Request keeps the facts, while connected.
 --   request-kept   of every Request, from every shape
 use mathlib.Core.Path.{_≡_, refl, sym, _∙_}
-use mathlib.Core.Bool.{Bool, true, false, true≢false}
+use mathlib.Core.Bool.{Bool, true, false, true≢false, false≢true}
 use Prim.Native.Nat.{ℕ, _%_, _<_}
 use native.Mathlib.Omega.{arith}
 use lib.Dec.{eqb}
@@ -10,11 +10,11 @@ use Rattle.chip.specs.Choice.{pick}
 use Rattle.chip.specs.Phases.{phaseNumber, comesIn, isNoted}
 use Rattle.chip.specs.Fifo.{isEmpty, pop, push}
 use Rattle.chip.specs.Count.{lowered}
-use Rattle.chip.specs.Interrupts.{outgoingDropped, withoutOutgoing, closed}
-use Rattle.chip.specs.TransferInfo.{halted, unlessHalted, parityNoted, takenIn, infoOut, infoTaken, infoIn, infoOver, infoRequest}
-use Rattle.chip.specs.SelectAndTransfer.{unexpected, sendIdentify, sendCommand, sendData, takeData, dataOut, dataIn, unlessNoneLeft, takeStatus, takeSave, takeDisconnect, takeMessage, bodyRequest, lateRequest, takeIdentify, completed, takeComplete, requestAt, transferRequest}
+use Rattle.chip.specs.Interrupts.{outgoingDropped, withoutOutgoing, closed, isEnding}
+use Rattle.chip.specs.TransferInfo.{halted, unlessHalted, parityNoted, takenIn, transferInfoSent, transferInfoTaken, transferInfoOffered, transferInfoOver, transferInfoRequest}
+use Rattle.chip.specs.SelectAndTransfer.{unexpected, sendIdentify, sendCommand, sendData, takeData, dataOut, dataIn, unlessNoneLeft, takeStatus, takeSave, takeDisconnect, takeMessage, bodyRequest, lateRequest, takeIdentify, completed, takeComplete, requestAt, selectAndTransferRequest}
 use Rattle.chip.specs.Commands.{wayOf}
-use Rattle.chip.specs.Events.{idleRequest, requestedConnected, requestedBy, rememberedBy, remembered, requested}
+use Rattle.chip.specs.Events.{idleRequest, requestedConnected, rememberedBy, remembered, requested, requestedRunning}
 use Rattle.chip.specs.declared.State.{State}
 use Rattle.chip.specs.declared.Reply.{Reply}
 use Rattle.chip.specs.declared.Fifo.{Fifo}
@@ -34,9 +34,13 @@ use Rattle.chip.specs.declared.Noted.the-variants.{NoPhase, Was}
 use Rattle.chip.specs.declared.Stage.{Stage}
 use Rattle.chip.specs.declared.Stage.the-variants.{SendIdentify, SendCommand, Body, AfterData, Disconnecting, Reselected, AfterStatus, Elsewhere}
 use Rattle.chip.proofs.Cases.{by-pick, by-case, both-first}
-use Rattle.reached.specs.Sound.{apart, joined, Way, unfixed, incoming, outgoing, none, Shape, idle, selects, waits, transfers, informs, ending, readOut, Transfers, with-atn, without-atn, Moves, transfer, info}
-use Rattle.reached.proofs.Fifos.{Whole, dropped-whole, pop-whole, push-whole}
-use Rattle.reached.proofs.Shapes.{Numbered, Good, so, Fine, being, in-way, no-more, lowered-way, raised, ended, unless-int}
+use Rattle.reached.specs.Sound.{apart, joined, Way, unfixed, incoming, outgoing, none, Shape, idle, selects, waits, selectsAndTransfers, transfersInfo, ending, readOut, SelectsAndTransfers, Moves, select-and-transfer, transfer-info}
+use Rattle.reached.proofs.Fifos.{dropped-whole}
+use Rattle.chip.specs.Fifo.{Whole}
+use Rattle.chip.proofs.FifoLaws.{empty-waits, keeps-bytes}
+use Rattle.reached.proofs.Shapes.{Numbered, Good, so, Fine, being, in-way, lowered-way, raised, ended, unless-int, second, clash, transfers-test, first}
+use Rattle.chip.specs.Connections.{isConnected}
+use Rattle.chip.specs.Answers.{outOfPlace}
 
 -- ---- the count falls by one, or stands
 
@@ -71,7 +75,7 @@ way-in (Was x) p e c =
 -- ---- connected, a command runs, nothing is pending
 
 module _ (s : State) (r : Running) (d : Direction) (q : Fifo) (atn ack : Bool) (w : Noted)
-    (n : Numbered s) (u : Whole q) (run : Moves r) (way : Way (s .transfer .one) (s .registers .count) d q)
+    (n : Numbered s) (u : Whole q) (run : Moves r) (way : Way (s .transfer .single) (s .registers .count) d q)
     (on : (o : Bool) (m : ℕ) (x : Fifo) (i j : Bool) → Way o m d x → Shape o m Nothing r Connected d x i j w) where
   abbrev now : State
   now = being Nothing r Connected d q atn ack w s
@@ -91,28 +95,28 @@ module _ (s : State) (r : Running) (d : Direction) (q : Fifo) (atn ack : Bool) (
   unfolding takenIn parityNoted lowered
   taken b bad = fewer s n
 
-  info-taken : (p : Phase) (b : ℕ) (bad : Bool) → d ≡ In → Fine (infoTaken p b bad now)
-  unfolding infoTaken takenIn parityNoted lowered
+  info-taken : (p : Phase) (b : ℕ) (bad : Bool) → d ≡ In → Fine (transferInfoTaken p b bad now)
+  unfolding transferInfoTaken takenIn parityNoted lowered
   info-taken p b bad e =
       by-pick Fine _
-      (unless-int _ _ same (ended 0x20 _ (taken b bad) (push-whole q u b) joined run (in-way e)))
-      (so _ (taken b bad) (push-whole q u b) (on _ _ (push b q) atn ack (in-way e)))
+      (unless-int _ _ same (ended 0x20 _ (taken b bad) (keeps-bytes .push-whole q b u) joined run (in-way e)))
+      (so _ (taken b bad) (keeps-bytes .push-whole q b u) (on _ _ (push b q) atn ack (in-way e)))
 
-  info-in : (p : Phase) (b : ℕ) (bad : Bool) → d ≡ In → Fine (infoIn p b bad now)
-  unfolding infoIn
+  info-in : (p : Phase) (b : ℕ) (bad : Bool) → d ≡ In → Fine (transferInfoOffered p b bad now)
+  unfolding transferInfoOffered
   info-in p b bad e = by-pick Fine _ (unless-halted bad _ (info-taken p b bad e)) same
 
-  info-out : (p : Phase) → Fine (infoOut p now)
-  unfolding infoOut lowered
-  info-out p = by-pick Fine _ same (so _ (fewer s n) (pop-whole q u) (on _ _ (pop q) _ ack (lowered-way way)))
+  info-out : (p : Phase) → Fine (transferInfoSent p now)
+  unfolding transferInfoSent lowered
+  info-out p = by-pick Fine _ same (so _ (fewer s n) (keeps-bytes .pop-whole q u) (on _ _ (pop q) _ ack (lowered-way way)))
 
-  info-over : (p : Phase) → Fine (infoOver p now)
-  unfolding infoOver
+  info-over : (p : Phase) → Fine (transferInfoOver p now)
+  unfolding transferInfoOver
   info-over p = unless-int _ _ same (ended _ _ n u joined run way)
 
-  info-request : (p : Phase) (b : ℕ) (bad : Bool) → d ≡ wayOf w → Fine (infoRequest p b bad now)
-  unfolding infoRequest
-  info-request p b bad e =
+  transfer-info-request : (p : Phase) (b : ℕ) (bad : Bool) → d ≡ wayOf w → Fine (transferInfoRequest p b bad now)
+  unfolding transferInfoRequest
+  transfer-info-request p b bad e =
       by-case Fine _
       (λ f.
       by-case Fine _ (λ c. info-in p b bad (e ∙ way-in w p (both-first _ _ f) c)) (λ c. info-out p))
@@ -124,18 +128,18 @@ module _ (s : State) (r : Running) (d : Direction) (q : Fifo) (atn ack : Bool) (
   unfolding unexpected
   unexpected-kept p = unless-int _ _ same (ended _ _ n u joined run way)
 
-  module _ (tr : Transfers r) where
+  module _ (tr : SelectsAndTransfers r) where
     send-data : Fine (sendData now)
     unfolding sendData lowered
-    send-data = by-pick Fine _ same (so _ (fewer s n) (pop-whole q u) (on _ _ (pop q) atn ack (lowered-way way)))
+    send-data = by-pick Fine _ same (so _ (fewer s n) (keeps-bytes .pop-whole q u) (on _ _ (pop q) atn ack (lowered-way way)))
 
     take-data : (b : ℕ) (bad : Bool) → Fine (takeData b bad now)
     unfolding takeData takenIn parityNoted lowered
-    take-data b bad = by-pick Fine _ (unless-halted bad _ (so _ (taken b bad) (push-whole q u b) (transfers tr incoming))) same
+    take-data b bad = by-pick Fine _ (unless-halted bad _ (so _ (taken b bad) (keeps-bytes .push-whole q b u) (selectsAndTransfers tr incoming))) same
 
-    data-out : (x : Direction) → Way (s .transfer .one) (s .registers .count) x q → Fine (dataOut x now)
+    data-out : (x : Direction) → Way (s .transfer .single) (s .registers .count) x q → Fine (dataOut x now)
     unfolding dataOut
-    data-out Unfixed (unfixed e) = so _ n u (transfers tr (outgoing (no-more q _ e)))
+    data-out Unfixed (unfixed e) = so _ n u (selectsAndTransfers tr (outgoing (empty-waits q _ e)))
     data-out In v = unexpected-kept DataOut
     data-out Out v = send-data
 
@@ -145,7 +149,7 @@ module _ (s : State) (r : Running) (d : Direction) (q : Fifo) (atn ack : Bool) (
     data-in In b bad = take-data b bad
     data-in Out b bad = unexpected-kept DataIn
 
-    dropped-way : (x : Direction) → Way (s .transfer .one) (s .registers .count) x q → Way (s .transfer .one) (s .registers .count) (closed x) (withoutOutgoing x q)
+    dropped-way : (x : Direction) → Way (s .transfer .single) (s .registers .count) x q → Way (s .transfer .single) (s .registers .count) (closed x) (withoutOutgoing x q)
     unfolding isEmpty
     dropped-way Unfixed h = h
     dropped-way In h = h
@@ -153,7 +157,7 @@ module _ (s : State) (r : Running) (d : Direction) (q : Fifo) (atn ack : Bool) (
 
     take-status : (b : ℕ) (bad : Bool) → Fine (takeStatus b bad now)
     unfolding takeStatus outgoingDropped parityNoted
-    take-status b bad = unless-halted bad _ (so _ n (dropped-whole d u) (transfers tr (dropped-way d way)))
+    take-status b bad = unless-halted bad _ (so _ n (dropped-whole d u) (selectsAndTransfers tr (dropped-way d way)))
 
     take-message : (b : ℕ) (bad : Bool) → Fine (takeMessage b bad now)
     unfolding takeMessage takeSave takeDisconnect parityNoted
@@ -195,9 +199,9 @@ module _ (s : State) (r : Running) (d : Direction) (q : Fifo) (atn ack : Bool) (
         by-pick Fine _ (unless-halted bad _ (unless-int _ _ same (ended 0x16 _ n u joined run way))) (unexpected-kept p)
     by-stage Elsewhere p b bad = unexpected-kept p
 
-    transfer-request : (identifies : Bool) (p : Phase) (b : ℕ) (bad : Bool) → Fine (transferRequest identifies p b bad now)
-    unfolding transferRequest
-    transfer-request identifies p b bad = by-stage _ p b bad
+    select-and-transfer-request : (p : Phase) (b : ℕ) (bad : Bool) → Fine (selectAndTransferRequest p b bad now)
+    unfolding selectAndTransferRequest
+    select-and-transfer-request p b bad = by-stage _ p b bad
 
 -- ---- by the shape
 
@@ -214,33 +218,32 @@ remembers Reported p x g = so _ (g .numbers) (g .whole) (g .shape)
 
 module _ (s : State) (n : Numbered s) (y : Phase) (b : ℕ) (bad : Bool) where
   by-shape : {p : Pending} {r : Running} {c : Connection} {d : Direction} {q : Fifo} {atn ack : Bool} {w : Noted}
-      → Whole q → Shape (s .transfer .one) (s .registers .count) p r c d q atn ack w → Fine (requestedBy c y b bad (being p r c d q atn ack w s))
-  unfolding requestedConnected idleRequest
-  by-shape u (idle e o h apart) = so _ n u (idle e o h apart)
-  by-shape u (idle e o h joined) =
-      by-pick Fine _ (so _ n u (idle e o h joined))
-      (by-pick Fine _ (so _ n u (idle e o h joined))
+      → isConnected c ≡ true → isEnding p ≡ false → Whole q → Shape (s .transfer .single) (s .registers .count) p r c d q atn ack w
+      → Fine (requestedRunning y b bad (being p r c d q atn ack w s))
+  unfolding requestedRunning idleRequest
+  by-shape x f u (idle e o h apart) = absurd (false≢true x)
+  by-shape x f u (idle e o h joined) =
+      second _ _
+      (second _ _
       (by-pick Fine _ (so _ n u (idle e o h joined)) (unless-int _ _ (so _ n u (idle e o h joined)) (raised _ _ n u joined (none h)))))
-  by-shape u (selects t o h) = so _ n u (selects t o h)
-  by-shape u (waits t h) = so _ n u (waits t h)
-  by-shape u (transfers with-atn h) =
-      by-pick Fine _ (so _ n u (transfers with-atn h))
-      (by-pick Fine _ (so _ n u (transfers with-atn h))
-      (transfer-request s _ _ _ _ _ _ n u (transfer with-atn) h (λ o m x i j. transfers with-atn) with-atn true y b bad))
-  by-shape u (transfers without-atn h) =
-      by-pick Fine _ (so _ n u (transfers without-atn h))
-      (by-pick Fine _ (so _ n u (transfers without-atn h))
-      (transfer-request s _ _ _ _ _ _ n u (transfer without-atn) h (λ o m x i j. transfers without-atn) without-atn false y b bad))
-  by-shape u (informs h e) =
-      by-pick Fine _ (so _ n u (informs h e))
-      (by-pick Fine _ (so _ n u (informs h e))
-      (info-request s _ _ _ _ _ _ n u info h (λ o m x i j v. informs v e) y b bad e))
-  by-shape u (ending t h apart) = so _ n u (ending t h apart)
-  by-shape u (ending t h joined) = by-case Fine _ (λ e. so _ n u (ending t h joined)) (λ e. absurd (true≢false e))
-  by-shape u (readOut t h) = so _ n u (readOut t h)
+  by-shape x f u (selects t o h) = absurd (false≢true x)
+  by-shape x f u (waits t h) = absurd (false≢true x)
+  by-shape x f u (selectsAndTransfers k h) =
+      by-case Fine _ (λ e. select-and-transfer-request s _ _ _ _ _ _ n u (select-and-transfer k) h (λ o m x i j. selectsAndTransfers k) k y b bad)
+      (λ e. clash (transfers-test k) e)
+  by-shape x f u (transfersInfo h e) =
+      second _ _ (first _ _ (transfer-info-request s _ _ _ _ _ _ n u transfer-info h (λ o m x i j v. transfersInfo v e) y b bad e))
+  by-shape x f u (ending t h apart) = absurd (false≢true x)
+  by-shape x f u (ending t h joined) = absurd (true≢false f)
+  by-shape x f u (readOut t h) = absurd (false≢true x)
+
+  connected-kept : Good s → isConnected (s .wire .connection) ≡ true → Fine (requestedConnected y b bad s)
+  unfolding requestedConnected
+  connected-kept g x =
+      by-case Fine _ (λ e. g) (λ e. by-pick Fine _ g (by-shape x e (g .whole) (g .shape)))
 
 pub request-kept : (p : Phase) (b : ℕ) (bad : Bool) (s : State) → Good s → Fine (requested p b bad s)
 unfolding requested remembered
 request-kept p b bad s g =
-    let x : Reply = requestedBy (s .wire .connection) p b bad s in
-    remembers (x .answer) p x (by-shape s (g .numbers) p b bad (g .whole) (g .shape))
+    let x : Reply = pick (isConnected (s .wire .connection)) (requestedConnected p b bad s) (outOfPlace s) in
+    remembers (x .answer) p x (by-case Fine _ (connected-kept s (g .numbers) p b bad g) (λ e. g))

@@ -3,7 +3,7 @@
 --   Kept        a step's law: every call keeps them
 --   Shape       the count, what is pending, the running command, connection, way, FIFO, ATN, held ACK and reported phase, together
 --   Placed      a connection in which no selection and no wait goes on: ATN and held ACK only when connected
---   Transfers   a Select-And-Transfer
+--   SelectsAndTransfers   a Select-And-Transfer
 --   Moves       one of 08, 09 and 20h, the commands that move bytes
 --   Selects     one of 06 to 09
 --   Way         where no way is fixed, no byte waits; going out, no more wait than are left
@@ -15,6 +15,7 @@ use mathlib.Core.Path.{_≡_}
 use mathlib.Core.Bool.{Bool, true, false, not}
 use Prim.Native.Nat.{ℕ, _≤_}
 use Rattle.chip.specs.Choice.{pick, both}
+use Rattle.chip.specs.Fifo as F
 use Rattle.chip.specs.Fifo.{isEmpty}
 use Rattle.chip.specs.Interrupts.{isEnding, isIncoming, isOutgoing}
 use Rattle.chip.specs.Commands.{wayOf}
@@ -24,13 +25,13 @@ use Rattle.chip.specs.declared.Fifo.{Fifo}
 use Rattle.chip.specs.declared.Pending.{Pending}
 use Rattle.chip.specs.declared.Pending.the-variants.{Nothing, Ending, ReadOut}
 use Rattle.chip.specs.declared.Running.{Running}
-use Rattle.chip.specs.declared.Running.the-variants.{Idle, SelectWithAtn, SelectWithoutAtn, TransferWithAtn, TransferWithoutAtn, TransferInfo}
+use Rattle.chip.specs.declared.Running.the-variants.{Idle, SelectWithAtn, SelectWithoutAtn, SelectAndTransferWithAtn, SelectAndTransferWithoutAtn, TransferInfo}
 use Rattle.chip.specs.declared.Connection.{Connection}
 use Rattle.chip.specs.declared.Connection.the-variants.{Disconnected, Selecting, Waiting, Connected}
 use Rattle.chip.specs.declared.Direction.{Direction}
 use Rattle.chip.specs.declared.Direction.the-variants.{Unfixed, In, Out}
 use Rattle.chip.specs.declared.Noted.{Noted}
-use Rattle.image.specs.Ok.{Ok}
+use Rattle.chip.specs.Ok.{Ok}
 
 abbrev pub isUnread : Direction → Fifo → Bool
 isUnread d q = both (isIncoming d) (not (isEmpty q))
@@ -39,58 +40,58 @@ pub data Placed : Connection → Bool → Bool → Type 0 where
   apart : Placed Disconnected false false
   joined : {atn ack : Bool} → Placed Connected atn ack
 
-pub data Transfers : Running → Type 0 where
-  with-atn : Transfers TransferWithAtn
-  without-atn : Transfers TransferWithoutAtn
+pub data SelectsAndTransfers : Running → Type 0 where
+  with-atn : SelectsAndTransfers SelectAndTransferWithAtn
+  without-atn : SelectsAndTransfers SelectAndTransferWithoutAtn
 
 pub data Moves : Running → Type 0 where
-  transfer : {r : Running} → Transfers r → Moves r
-  info : Moves TransferInfo
+  select-and-transfer : {r : Running} → SelectsAndTransfers r → Moves r
+  transfer-info : Moves TransferInfo
 
 pub data Selects : Running → Type 0 where
   six : Selects SelectWithAtn
   seven : Selects SelectWithoutAtn
-  eight : Selects TransferWithAtn
-  nine : Selects TransferWithoutAtn
+  eight : Selects SelectAndTransferWithAtn
+  nine : Selects SelectAndTransferWithoutAtn
 
--- one says that the count n stands for a single byte, as `left` reads them
-pub data Way (one : Bool) (n : ℕ) : Direction → Fifo → Type 0 where
-  unfixed : {q : Fifo} → isEmpty q ≡ true → Way one n Unfixed q
-  incoming : {q : Fifo} → Way one n In q
-  outgoing : {q : Fifo} → q .held ≤ pick one 1 n → Way one n Out q
+-- single: the count n stands for a single byte, as `left` reads them
+pub data Way (single : Bool) (n : ℕ) : Direction → Fifo → Type 0 where
+  unfixed : {q : Fifo} → isEmpty q ≡ true → Way single n Unfixed q
+  incoming : {q : Fifo} → Way single n In q
+  outgoing : {q : Fifo} → F.waits q ≤ pick single 1 n → Way single n Out q
 
-pub data Drained (one : Bool) (n : ℕ) : Direction → Fifo → Type 0 where
-  none : {d : Direction} {q : Fifo} → isEmpty q ≡ true → Drained one n d q
-  out : {q : Fifo} → q .held ≤ pick one 1 n → Drained one n Out q
+pub data Drained (single : Bool) (n : ℕ) : Direction → Fifo → Type 0 where
+  none : {d : Direction} {q : Fifo} → isEmpty q ≡ true → Drained single n d q
+  out : {q : Fifo} → F.waits q ≤ pick single 1 n → Drained single n Out q
 
-pub data Shape (one : Bool) (n : ℕ) : Pending → Running → Connection → Direction → Fifo → Bool → Bool → Noted → Type 0 where
+pub data Shape (single : Bool) (n : ℕ) : Pending → Running → Connection → Direction → Fifo → Bool → Bool → Noted → Type 0 where
   -- no command runs: no ending, INT or not, the way not out, no byte waits, and it is Disconnected or connected
   idle : {p : Pending} {c : Connection} {d : Direction} {q : Fifo} {atn ack : Bool} {w : Noted}
-      → isEnding p ≡ false → isOutgoing d ≡ false → isEmpty q ≡ true → Placed c atn ack → Shape one n p Idle c d q atn ack w
+      → isEnding p ≡ false → isOutgoing d ≡ false → isEmpty q ≡ true → Placed c atn ack → Shape single n p Idle c d q atn ack w
   -- selecting: one of 06 to 09 runs, no INT, the way not out, no byte waits
   selects : {r : Running} {d : Direction} {q : Fifo} {w : Noted}
-      → Selects r → isOutgoing d ≡ false → isEmpty q ≡ true → Shape one n Nothing r Selecting d q false false w
+      → Selects r → isOutgoing d ≡ false → isEmpty q ≡ true → Shape single n Nothing r Selecting d q false false w
   -- waiting for reselection: a Select-And-Transfer runs, no INT, every incoming byte was read
   waits : {r : Running} {d : Direction} {q : Fifo} {w : Noted}
-      → Transfers r → Drained one n d q → Shape one n Nothing r Waiting d q false false w
+      → SelectsAndTransfers r → Drained single n d q → Shape single n Nothing r Waiting d q false false w
   -- connected, a Select-And-Transfer runs, no INT
-  transfers : {r : Running} {d : Direction} {q : Fifo} {atn ack : Bool} {w : Noted}
-      → Transfers r → Way one n d q → Shape one n Nothing r Connected d q atn ack w
+  selectsAndTransfers : {r : Running} {d : Direction} {q : Fifo} {atn ack : Bool} {w : Noted}
+      → SelectsAndTransfers r → Way single n d q → Shape single n Nothing r Connected d q atn ack w
   -- connected, Transfer Info runs, no INT; the way is that of the reported phase
-  informs : {d : Direction} {q : Fifo} {atn ack : Bool} {w : Noted}
-      → Way one n d q → d ≡ wayOf w → Shape one n Nothing TransferInfo Connected d q atn ack w
+  transfersInfo : {d : Direction} {q : Fifo} {atn ack : Bool} {w : Noted}
+      → Way single n d q → d ≡ wayOf w → Shape single n Nothing TransferInfo Connected d q atn ack w
   -- an ending: a command that moves bytes runs, incoming bytes wait, and it is Disconnected or connected
   ending : {code : ℕ} {r : Running} {c : Connection} {d : Direction} {q : Fifo} {atn ack : Bool} {w : Noted}
-      → Moves r → isUnread d q ≡ true → Placed c atn ack → Shape one n (Ending code) r c d q atn ack w
+      → Moves r → isUnread d q ≡ true → Placed c atn ack → Shape single n (Ending code) r c d q atn ack w
   -- the read-out after a Free at 42h: a Select-And-Transfer runs, incoming bytes wait, Disconnected
   readOut : {r : Running} {d : Direction} {q : Fifo} {w : Noted}
-      → Transfers r → isUnread d q ≡ true → Shape one n ReadOut r Disconnected d q false false w
+      → SelectsAndTransfers r → isUnread d q ≡ true → Shape single n ReadOut r Disconnected d q false false w
 
 -- the shape of a state
 abbrev pub Shaped : State → Type 0
 Shaped s =
-    Shape (s .transfer .one) (s .registers .count) (s .status .pending) (s .transfer .running) (s .wire .connection)
-    (s .transfer .direction) (s .fifo) (s .wire .atn) (s .wire .ack) (s .wire .reported)
+    Shape (s .transfer .single) (s .registers .count) (s .status .pending) (s .transfer .running) (s .wire .connection)
+    (s .transfer .direction) (s .fifo) (s .wire .handshake .atn) (s .wire .handshake .ack) (s .wire .seen .reported)
 
 pub record Sound (s : State) : Type 0 where
   -- lengths, the count below 2^24, the identity below 8, at most 12 bytes wait, the other places of the FIFO are 0

@@ -25,4 +25,4 @@ staysSelecting =
     (λ s t. pick (interrupted t) (setRunning (s .transfer .running) (setConnection (s .wire .connection) t)) t)
 
 unfoldable pub keepsAck : Call → State → Outcome
-keepsAck = afterwards 8 (λ s t. setAck (s .wire .ack) t)
+keepsAck = afterwards 8 (λ s t. setAck (s .wire .handshake .ack) t)

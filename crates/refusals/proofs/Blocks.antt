@@ -11,9 +11,8 @@ use Rattle.chip.specs.Choice.{pick, both, either}
 use Rattle.chip.specs.State.{setPointer, setFifo}
 use Rattle.chip.specs.Answers.{says}
 use Rattle.chip.specs.Fifo.{pop}
-use Rattle.chip.specs.Count.{left}
+use Rattle.chip.specs.Count.{left, dbrBy, dbr}
 use Rattle.chip.specs.Interrupts.{busy, raise, outgoingDropped, settledBy, settled}
-use Rattle.chip.specs.TransferInfo.{dbrBy, dbr}
 use Rattle.chip.specs.Registers.{Moved, andThen, stopped, goOn, pointerAfter, isBlind, dataReadBy, dataRead, dataWrittenBy, dataWritten, readAt, writtenAt, stepped, accessedAt, accessed, blockRead, blockWritten}
 use Rattle.chip.specs.Calls.{Call, Outcome, register, isByte, isGood, plain, moved, carried, step}
 use Rattle.chip.specs.declared.State.{State}

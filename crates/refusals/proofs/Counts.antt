@@ -20,7 +20,7 @@ use Rattle.refusals.specs.Refusals.{SameCount}
 use Rattle.refusals.specs.Counting.{isData}
 use Rattle.chip.proofs.Cases.{by-pick}
 
-pub stands : {s t : State} → t .registers .count ≡ s .registers .count → t .transfer .one ≡ s .transfer .one → SameCount s t
+pub stands : {s t : State} → t .registers .count ≡ s .registers .count → t .transfer .single ≡ s .transfer .single → SameCount s t
 stands h k = record { shown = h; beside = k }
 
 pub then : {s t u : State} → SameCount s t → SameCount t u → SameCount s u
@@ -33,7 +33,7 @@ less false n e = let h = eqb-false n 0 e in omega arith
 
 pub one-less : (s : State) {t : State} → noneLeft s ≡ false → SameCount (lowered s) t → left s ≡ suc (left t)
 unfolding left noneLeft lowered pick
-one-less s {t} e h = rw (h .shown, h .beside) (less (s .transfer .one) (s .registers .count) e)
+one-less s {t} e h = rw (h .shown, h .beside) (less (s .transfer .single) (s .registers .count) e)
 
 pub raise-count : (code : ℕ) (s : State) → SameCount s (raise code s)
 unfolding raise outgoingDropped

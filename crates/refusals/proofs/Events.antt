@@ -4,15 +4,12 @@ use mathlib.Core.Path.{refl}
 use mathlib.Core.Bool.{false}
 use Prim.Native.Nat.{ℕ}
 use Rattle.chip.specs.Answers.{held}
-use Rattle.chip.specs.SelectAndTransfer.{freeToWait, freeAfterDisconnect, transferFree}
-use Rattle.chip.specs.Events.{timedOut, selectionTime, passedBy, passed, connected, answeredState, answeredSelecting, answeredBy, answered, reselectedState, reselectedLoud, reselectedWaiting, reselectedBy, reselected, busFree, idleFree, freedFrom, freedBy, freed}
+use Rattle.chip.specs.SelectAndTransfer.{freeToWait, freeAfterDisconnect, selectAndTransferFree}
+use Rattle.chip.specs.TransferInfo.{transferInfoFree}
+use Rattle.chip.specs.Events.{timedOut, selectionTime, passed, connected, answeredState, answeredSelecting, answered, reselectedState, reselectedWithCode, reselectedApart, reselected, busFree, idleFree, freedRunning, freed}
 use Rattle.chip.specs.Calls.{time, answer, reselection, free}
 use Rattle.chip.specs.declared.State.{State}
 use Rattle.chip.specs.declared.Reply.{Reply}
-use Rattle.chip.specs.declared.Running.{Running}
-use Rattle.chip.specs.declared.Running.the-variants.{Idle, SelectWithAtn, SelectWithoutAtn, TransferWithAtn, TransferWithoutAtn, TransferInfo}
-use Rattle.chip.specs.declared.Connection.{Connection}
-use Rattle.chip.specs.declared.Connection.the-variants.{Disconnected, Selecting, Waiting, Connected}
 use Rattle.refusals.specs.Refusals.{SameCount}
 use Rattle.chip.proofs.Cases.{by-pick}
 use Rattle.refusals.proofs.Counts.{stands, then, raise-count, end-count}
@@ -35,15 +32,10 @@ module _ (n : ℕ) (s : State) where
       (by-pick Timely _ (passes refl (stands refl refl))
       (by-pick Timely _ (passes refl timed-out) (passes refl (stands refl refl))))
 
-  time-by : (w : Connection) → Timely (passedBy w n s)
-  time-by Disconnected = passes refl (stands refl refl)
-  time-by Selecting = selection-time
-  time-by Waiting = passes refl (stands refl refl)
-  time-by Connected = passes refl (stands refl refl)
-
   pub time-served : Served (time n) false s (passed n s)
   unfolding passed
-  time-served = by-pick Timely _ (passes refl (stands refl refl)) (time-by (s .wire .connection))
+  time-served =
+      by-pick Timely _ (passes refl (stands refl refl)) (by-pick Timely _ selection-time (passes refl (stands refl refl)))
 
 -- ---- Answer
 
@@ -63,15 +55,9 @@ module _ (s : State) where
       (by-pick Answering _ (passes refl (stands (h .shown) (h .beside)))
       (unless-held (holds refl refl) (passes refl (then h (raise-count _ _)))))
 
-  answer-by : (w : Connection) → Answering (answeredBy w s)
-  answer-by Disconnected = elsewhere refl refl
-  answer-by Selecting = answer-selecting
-  answer-by Waiting = elsewhere refl refl
-  answer-by Connected = elsewhere refl refl
-
   pub answer-served : Served answer false s (answered s)
   unfolding answered
-  answer-served = answer-by (s .wire .connection)
+  answer-served = by-pick Answering _ answer-selecting (elsewhere refl refl)
 
 -- ---- Reselection
 
@@ -83,26 +69,21 @@ module _ (lines : ℕ) (s : State) where
   abbrev Reselecting : Reply → Type 0
   Reselecting r = Served (reselection lines) false s r
 
-  loud : Reselecting (reselectedLoud lines s)
-  unfolding reselectedLoud
-  loud = unless-held (holds refl refl) (passes refl (then (reselected-count lines s) (raise-count _ _)))
+  with-code : Reselecting (reselectedWithCode lines s)
+  unfolding reselectedWithCode
+  with-code = unless-held (holds refl refl) (passes refl (then (reselected-count lines s) (raise-count _ _)))
 
-  waiting : Reselecting (reselectedWaiting lines s)
-  unfolding reselectedWaiting
-  waiting =
+  from-apart : Reselecting (reselectedApart lines s)
+  unfolding reselectedApart
+  from-apart =
       let h = reselected-count lines s in
-      by-pick Reselecting _ (passes refl (stands (h .shown) (h .beside))) loud
-
-  reselection-by : (w : Connection) → Reselecting (reselectedBy w lines s)
-  reselection-by Disconnected = by-pick Reselecting _ (holds refl refl) loud
-  reselection-by Selecting = by-pick Reselecting _ (holds refl refl) loud
-  reselection-by Waiting = by-pick Reselecting _ (holds refl refl) waiting
-  reselection-by Connected = elsewhere refl refl
+      by-pick Reselecting _ (holds refl refl)
+      (by-pick Reselecting _ (passes refl (stands (h .shown) (h .beside))) with-code)
 
   pub reselection-served : Served (reselection lines) false s (reselected lines s)
   unfolding reselected
   reselection-served =
-      by-pick Reselecting _ (reselection-by (s .wire .connection))
+      by-pick Reselecting _ (by-pick Reselecting _ (elsewhere refl refl) from-apart)
       (record {
         fits = record { among = refl; row = (refl, refl, record { state = refl; lent = refl }) };
         count = stands refl refl;
@@ -130,8 +111,8 @@ module _ (s : State) where
   unfolding freeAfterDisconnect
   after-disconnect t h = by-pick Freeing _ (unless-held hold (passes refl (then h (end-count _ _)))) (to-wait t h)
 
-  transfer-free : (t : State) → SameCount s t → Freeing (transferFree s t)
-  unfolding transferFree
+  transfer-free : (t : State) → SameCount s t → Freeing (selectAndTransferFree s t)
+  unfolding selectAndTransferFree
   transfer-free t h =
       by-pick Freeing _ (after-disconnect _ (stands (h .shown) (h .beside)))
       (unless-held hold (passes refl (then h (end-count _ _))))
@@ -140,20 +121,12 @@ module _ (s : State) where
   unfolding idleFree
   idle-free = unless-held hold (passes refl (then (free-count s) (raise-count _ _)))
 
-  free-by-running : (r : Running) → Freeing (freedFrom r s)
-  free-by-running Idle = idle-free
-  free-by-running SelectWithAtn = idle-free
-  free-by-running SelectWithoutAtn = idle-free
-  free-by-running TransferWithAtn = transfer-free (busFree s) (free-count s)
-  free-by-running TransferWithoutAtn = transfer-free (busFree s) (free-count s)
-  free-by-running TransferInfo = unless-held hold (passes refl (then (free-count s) (end-count _ _)))
-
-  free-by : (w : Connection) → Freeing (freedBy w s)
-  free-by Disconnected = elsewhere refl refl
-  free-by Selecting = elsewhere refl refl
-  free-by Waiting = elsewhere refl refl
-  free-by Connected = by-pick Freeing _ hold (free-by-running (s .transfer .running))
+  free-running : Freeing (freedRunning s)
+  unfolding freedRunning transferInfoFree
+  free-running =
+      by-pick Freeing _ (transfer-free (busFree s) (free-count s))
+      (by-pick Freeing _ (unless-held hold (passes refl (then (free-count s) (end-count _ _)))) idle-free)
 
   pub free-served : Served free false s (freed s)
   unfolding freed
-  free-served = free-by (s .wire .connection)
+  free-served = by-pick Freeing _ (by-pick Freeing _ hold free-running) (elsewhere refl refl)

@@ -12,7 +12,8 @@ use borrow.Author.Tests.{eqb-true}
 use Rattle.chip.specs.Choice.{pick, both, either}
 use Rattle.chip.specs.Answers.{done}
 use Rattle.chip.specs.Lines.{codeOf}
-use Rattle.chip.specs.Interrupts.{isRunning, busy}
+use Rattle.chip.specs.Interrupts.{busy}
+use Rattle.chip.specs.Running.{isRunning}
 use Rattle.chip.specs.Commands.{leftOut, table, entryOf, isTwo, reset, aborted, disconnected, selecting, carriedOut, accepted, isRefusedBusy, commanded}
 use Rattle.chip.specs.Registers.{isBlind, readAt, writtenAt, stepped, accessedAt, accessed}
 use Rattle.chip.specs.declared.State.{State}

@@ -11,7 +11,7 @@ use mathlib.Core.List.{List}
 use Prim.Native.Nat.{ℕ}
 use Rattle.chip.specs.Choice.{pick}
 use Rattle.chip.specs.Phases.{phaseOf}
-use Rattle.chip.specs.Interrupts.{isRunning}
+use Rattle.chip.specs.Running.{isRunning}
 use Rattle.chip.specs.Answers.{number}
 use Rattle.chip.specs.Registers.{Moved, pointerRead, pointerSet, auxiliaryRead, accessed}
 use Rattle.chip.specs.Calls.{Call, Outcome, pointer, auxiliary, register, block, time, answer, reselection, request, free, isGood, isSet, plain, carried, lentBy, step}

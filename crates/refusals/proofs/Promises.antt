@@ -15,7 +15,7 @@ use Rattle.chip.specs.Choice.{pick, both}
 use Rattle.chip.specs.Answers.{number, value}
 use Rattle.chip.specs.Calls.{auxiliary}
 use Rattle.chip.specs.Image.{isImage}
-use Rattle.chip.specs.Entries.{Left, result, entered}
+use Rattle.chip.specs.Entries.{AfterEntry, result, entered}
 use Rattle.chip.specs.declared.Answer.{Answer}
 use Rattle.chip.specs.declared.Answer.the-variants.{Done, Held, OutOfPlace, BadNumber, Blind, CommandIgnored, ReselectionIgnored, NoDataNow, Reported}
 use Rattle.refusals.specs.Promises.{PromiseSettles, Promise, AnswerSettled, NumberAlone, UnlessRefused}
@@ -65,7 +65,7 @@ answer-settled a b e =
     sym (answer-back a) ∙ rw (p .0, p .1) (answer-back b)
 
 -- what an entry could leave, with a number and an image
-abbrev leaves : ℕ → List ℕ → Left
+abbrev leaves : ℕ → List ℕ → AfterEntry
 leaves n image = record { result = n; image = image; lent = [] }
 
 pub number-alone-falls : PromiseSettles NumberAlone → ⊥

@@ -1,6 +1,6 @@
 -- Every reply to a Request fits it, and counts a byte exactly where one of the count's crosses.
 --   request-served   of every Request, from every state
-use mathlib.Core.Path.{_≡_, refl}
+use mathlib.Core.Path.{_≡_, refl, sym, _∙_, subst}
 use mathlib.Core.Bool.{Bool, true, false}
 use Prim.Native.Nat.{ℕ}
 use borrow.Author.Tests.{not-true}
@@ -9,9 +9,9 @@ use Rattle.chip.specs.Answers.{says, done, held, reports}
 use Rattle.chip.specs.Phases.{isCommandOut, isMessageOut, isMessageIn}
 use Rattle.chip.specs.Count.{left, noneLeft, lowered}
 use Rattle.chip.specs.Interrupts.{withoutOutgoing, outgoingDropped, raise, endingWith, unlessInterrupt}
-use Rattle.chip.specs.TransferInfo.{halted, unlessHalted, parityNoted, takenIn, infoOut, infoTaken, infoIn, infoOver, infoRequest}
-use Rattle.chip.specs.SelectAndTransfer.{unexpected, sendIdentify, sendCommand, sendData, takeData, dataOut, dataIn, unlessNoneLeft, takeStatus, takeSave, takeDisconnect, takeMessage, bodyRequest, lateRequest, takeIdentify, completed, takeComplete, requestAt, transferRequest}
-use Rattle.chip.specs.Events.{idleRequest, servedBy, requestedConnected, requestedBy, rememberedBy, remembered, requested}
+use Rattle.chip.specs.TransferInfo.{halted, unlessHalted, parityNoted, takenIn, transferInfoSent, transferInfoTaken, transferInfoOffered, transferInfoOver, transferInfoRequest}
+use Rattle.chip.specs.SelectAndTransfer.{unexpected, sendIdentify, sendCommand, sendData, takeData, dataOut, dataIn, unlessNoneLeft, takeStatus, takeSave, takeDisconnect, takeMessage, bodyRequest, lateRequest, takeIdentify, completed, takeComplete, requestAt, selectAndTransferRequest}
+use Rattle.chip.specs.Events.{idleRequest, requestedRunning, requestedConnected, rememberedBy, remembered, requested}
 use Rattle.chip.specs.Calls.{request}
 use Rattle.chip.specs.declared.State.{State}
 use Rattle.chip.specs.declared.Reply.{Reply}
@@ -26,13 +26,9 @@ use Rattle.chip.specs.declared.Noted.{Noted}
 use Rattle.chip.specs.declared.Noted.the-variants.{Was}
 use Rattle.chip.specs.declared.Stage.{Stage}
 use Rattle.chip.specs.declared.Stage.the-variants.{SendIdentify, SendCommand, Body, AfterData, Disconnecting, Reselected, AfterStatus, Elsewhere}
-use Rattle.chip.specs.declared.Running.{Running}
-use Rattle.chip.specs.declared.Running.the-variants.{Idle, SelectWithAtn, SelectWithoutAtn, TransferWithAtn, TransferWithoutAtn, TransferInfo}
-use Rattle.chip.specs.declared.Connection.{Connection}
-use Rattle.chip.specs.declared.Connection.the-variants.{Disconnected, Selecting, Waiting, Connected}
 use Rattle.refusals.specs.Refusals.{SameCount, Untaken, kept, dropped, raised, ending, opened, Noticed}
 use Rattle.refusals.specs.Counting.{isData, isCounted, Falls}
-use Rattle.chip.proofs.Cases.{by-pick, by-case, both-first, both-second}
+use Rattle.chip.proofs.Cases.{by-pick, by-case, taken, passed-over, both-first, both-second}
 use Rattle.refusals.proofs.Fitting.{Served, did, passes, holds, elsewhere, unless-held}
 use Rattle.refusals.proofs.Counts.{stands, then, one-less, raise-count, end-count, no-data}
 
@@ -92,28 +88,28 @@ module _ (n b q : ℕ) (s : State) where
 
   -- ---- Transfer Info
 
-  info-out : (p : Phase) → noneLeft s ≡ false → Fine true (infoOut p s)
-  unfolding infoOut lowered
+  info-out : (p : Phase) → noneLeft s ≡ false → Fine true (transferInfoSent p s)
+  unfolding transferInfoSent lowered
   info-out p e = by-pick (Fine true) _ (hold true) (counted e (stands refl refl))
 
-  info-taken : (p : Phase) (x : ℕ) (bad : Bool) → noneLeft s ≡ false → Fine true (infoTaken p x bad s)
-  unfolding infoTaken
+  info-taken : (p : Phase) (x : ℕ) (bad : Bool) → noneLeft s ≡ false → Fine true (transferInfoTaken p x bad s)
+  unfolding transferInfoTaken
   info-taken p x bad e =
       let l = lowered-in x bad s in
       by-pick (Fine true) _
       (unless-int true (counted e (then (stands (l .shown) (l .beside)) (end-count _ _))))
       (counted e l)
 
-  info-in : (p : Phase) (x : ℕ) (bad : Bool) → noneLeft s ≡ false → Fine true (infoIn p x bad s)
-  unfolding infoIn
+  info-in : (p : Phase) (x : ℕ) (bad : Bool) → noneLeft s ≡ false → Fine true (transferInfoOffered p x bad s)
+  unfolding transferInfoOffered
   info-in p x bad e = by-pick (Fine true) _ (unless-halted true bad (info-taken p x bad e)) (hold true)
 
-  info-over : (p : Phase) → Fine true (infoOver p s)
-  unfolding infoOver
+  info-over : (p : Phase) → Fine true (transferInfoOver p s)
+  unfolding transferInfoOver
   info-over p = unless-int true (noticed true (before (end-noticed _ _)))
 
-  info-request : (p : Phase) (x : ℕ) (bad : Bool) → Fine true (infoRequest p x bad s)
-  unfolding infoRequest
+  info-request : (p : Phase) (x : ℕ) (bad : Bool) → Fine true (transferInfoRequest p x bad s)
+  unfolding transferInfoRequest
   info-request p x bad =
       by-case (Fine true) _
       (λ e.
@@ -237,9 +233,9 @@ module _ (n b q : ℕ) (s : State) where
   by-stage AfterStatus p x bad = take-complete p x bad
   by-stage Elsewhere p x bad = unexpected-served _ p
 
-  transfer-request : (identifies : Bool) (p : Phase) (x : ℕ) (bad : Bool) → Fine (isData p) (transferRequest identifies p x bad s)
-  unfolding transferRequest
-  transfer-request identifies p x bad = by-stage _ p x bad
+  transfer-request : (p : Phase) (x : ℕ) (bad : Bool) → Fine (isData p) (selectAndTransferRequest p x bad s)
+  unfolding selectAndTransferRequest
+  transfer-request p x bad = by-stage _ p x bad
 
   -- ---- by what runs, and the connection
 
@@ -247,26 +243,23 @@ module _ (n b q : ℕ) (s : State) where
   unfolding idleRequest
   idle-request p = by-pick (Fine false) _ (hold false) (unless-int false (noticed false (before (raise-noticed _ _))))
 
-  by-running : (r : Running) (p : Phase) (x : ℕ) (bad : Bool) → Fine (isCounted r p) (servedBy r p x bad s)
-  by-running Idle p x bad = idle-request p
-  by-running SelectWithAtn p x bad = idle-request p
-  by-running SelectWithoutAtn p x bad = idle-request p
-  by-running TransferWithAtn p x bad = transfer-request true p x bad
-  by-running TransferWithoutAtn p x bad = transfer-request false p x bad
-  by-running TransferInfo p x bad = info-request p x bad
-
   abbrev Right : Phase → Reply → Type 0
   Right p r = Fine (isCounted (s .transfer .running) p) r
 
+  -- what counts by what is counted, k
+  right : {k : Bool} (p : Phase) {r : Reply} → isCounted (s .transfer .running) p ≡ k → Fine k r → Right p r
+  right p {r = r} e h = subst (λ (k : Bool). Fine k r) (sym e) h
+
+  running : (p : Phase) (x : ℕ) (bad : Bool) → Right p (requestedRunning p x bad s)
+  unfolding requestedRunning isCounted
+  running p x bad =
+      by-case (Right p) _ (λ e. right p (taken _ _ e) (transfer-request p x bad))
+      (λ e. by-case (Right p) _ (λ i. right p (passed-over _ _ e ∙ i) (info-request p x bad))
+      (λ i. right p (passed-over _ _ e ∙ i) (idle-request p)))
+
   connected : (p : Phase) (x : ℕ) (bad : Bool) → Right p (requestedConnected p x bad s)
   unfolding requestedConnected
-  connected p x bad = by-pick (Right p) _ (hold _) (by-pick (Right p) _ (hold _) (by-running (s .transfer .running) p x bad))
-
-  by-connection : (w : Connection) (p : Phase) (x : ℕ) (bad : Bool) → Right p (requestedBy w p x bad s)
-  by-connection Disconnected p x bad = elsewhere refl refl
-  by-connection Selecting p x bad = elsewhere refl refl
-  by-connection Waiting p x bad = elsewhere refl refl
-  by-connection Connected p x bad = connected p x bad
+  connected p x bad = by-pick (Right p) _ (hold _) (by-pick (Right p) _ (hold _) (running p x bad))
 
   -- ---- the phase is kept in mind
 
@@ -290,4 +283,4 @@ module _ (n b q : ℕ) (s : State) where
 
   pub request-served : (p : Phase) (x : ℕ) (bad : Bool) → Right p (requested p x bad s)
   unfolding requested remembered
-  request-served p x bad = remembers _ _ p (by-connection (s .wire .connection) p x bad)
+  request-served p x bad = remembers _ _ p (by-pick (Right p) _ (connected p x bad) (elsewhere refl refl))

@@ -21,9 +21,10 @@ use Rattle.chip.proofs.Computing.{everything}
 use Rattle.refusals.specs.Refusals.{RefusalsKeep}
 use Rattle.refusals.specs.Kinds.{KindsKept}
 use Rattle.refusals.specs.Silence.{AuxiliaryIsSilent}
-use Rattle.refusals.specs.Counting.{CountFallsOnlyOnTheBus}
+use Rattle.refusals.specs.Counting.{isCounted, CountFallsOnlyOnTheBus}
 use Rattle.refusals.specs.Blocks.{reads, writes, BlockIsAccesses}
 use Rattle.refusals.specs.Wrong.{blindClears, noDataMoves, ignoredQuietly, heldCounts, reportTakes, holdsEverything, nodsAtEverything, auxiliaryClears, writeCounts, blockInvents, blockMovesOne}
+use Rattle.chip.specs.Fifo.{waits}
 
 pub blind-clears-falls : RefusalsKeep blindClears → ⊥
 unfolding everything blindClears
@@ -65,7 +66,7 @@ unfolding everything auxiliaryClears
 auxiliary-clears-falls h = false≢true (ap interrupted (h .auxiliary-read (setPending Interrupt fresh)))
 
 pub nods-at-everything-falls : CountFallsOnlyOnTheBus nodsAtEverything → ⊥
-unfolding everything nodsAtEverything
+unfolding everything nodsAtEverything isCounted
 nods-at-everything-falls h =
     let s : State = setRunning TransferInfo five in
     true≢false (ap (λ n. eqb n 5) (h .counting (request 0 0 0) s))
@@ -85,4 +86,4 @@ block-invents-falls h = false≢true (ap (λ o. eqb (value (o .answer)) 0) (h .i
 pub block-moves-one-falls : BlockIsAccesses blockMovesOne → ⊥
 unfolding everything blockMovesOne writes
 block-moves-one-falls h =
-    false≢true (ap (λ o. eqb (o .state .fifo .held) 2) (h .out-of-slice (7 ∷ 8 ∷ []) taking refl))
+    false≢true (ap (λ o. eqb (waits (o .state .fifo)) 2) (h .out-of-slice (7 ∷ 8 ∷ []) taking refl))

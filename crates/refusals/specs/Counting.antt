@@ -12,8 +12,9 @@ use mathlib.Core.Path.{_≡_}
 use mathlib.Core.Bool.{Bool, true, false}
 use Prim.Native.Nat.{ℕ, suc}
 use lib.Dec.{eqb}
+use Rattle.chip.specs.Choice.{pick}
 use Rattle.chip.specs.Count.{left}
-use Rattle.chip.specs.Interrupts.{isRunning}
+use Rattle.chip.specs.Running.{isRunning, isSelectAndTransfer, isTransferInfo}
 use Rattle.chip.specs.Phases.{phaseOf}
 use Rattle.chip.specs.Calls.{Call, Outcome, pointer, auxiliary, register, block, time, answer, reselection, request, free, kind}
 use Rattle.chip.specs.declared.State.{State}
@@ -22,7 +23,6 @@ use Rattle.chip.specs.declared.Answer.the-variants.{Done, Held, OutOfPlace, Bad
 use Rattle.chip.specs.declared.Phase.{Phase}
 use Rattle.chip.specs.declared.Phase.the-variants.{DataOut, DataIn, CommandOut, StatusIn, UnspecifiedOut, UnspecifiedIn, MessageOut, MessageIn}
 use Rattle.chip.specs.declared.Running.{Running}
-use Rattle.chip.specs.declared.Running.the-variants.{Idle, SelectWithAtn, SelectWithoutAtn, TransferWithAtn, TransferWithoutAtn, TransferInfo}
 use Rattle.refusals.specs.Refusals.{SameCount}
 
 abbrev pub isData : Phase → Bool
@@ -35,13 +35,8 @@ isData UnspecifiedIn = false
 isData MessageOut = false
 isData MessageIn = false
 
-abbrev pub isCounted : Running → Phase → Bool
-isCounted Idle p = false
-isCounted SelectWithAtn p = false
-isCounted SelectWithoutAtn p = false
-isCounted TransferWithAtn p = isData p
-isCounted TransferWithoutAtn p = isData p
-isCounted TransferInfo p = true
+unfoldable pub isCounted : Running → Phase → Bool
+isCounted r p = pick (isSelectAndTransfer r) (isData p) (isTransferInfo r)
 
 abbrev pub Falls : Bool → State → State → Type 0
 Falls true s t = left s ≡ suc (left t)

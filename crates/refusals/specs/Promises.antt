@@ -12,14 +12,14 @@ use Prim.Native.Nat.{ℕ}
 use Rattle.chip.specs.Choice.{both}
 use Rattle.chip.specs.Calls.{Call, isGood}
 use Rattle.chip.specs.Image.{isImage}
-use Rattle.chip.specs.Entries.{Left, result, entered}
+use Rattle.chip.specs.Entries.{AfterEntry, result, entered}
 use Rattle.chip.specs.declared.Answer.{Answer}
 
-abbrev pub PromiseSettles : (Call → List ℕ → Left → Type 0) → Type 0
-PromiseSettles promise = (c : Call) (image : List ℕ) (x y : Left) → promise c image x → promise c image y → x ≡ y
+abbrev pub PromiseSettles : (Call → List ℕ → AfterEntry → Type 0) → Type 0
+PromiseSettles promise = (c : Call) (image : List ℕ) (x y : AfterEntry) → promise c image x → promise c image y → x ≡ y
 
 -- an entry that lends no slice has the empty one
-pub record Promise (c : Call) (image : List ℕ) (r : Left) : Type 0 where
+pub record Promise (c : Call) (image : List ℕ) (r : AfterEntry) : Type 0 where
   pub returned : r .result ≡ entered c image .result
   pub image-exit : r .image ≡ entered c image .image
   pub slice-exit : r .lent ≡ entered c image .lent
@@ -27,8 +27,8 @@ pub record Promise (c : Call) (image : List ℕ) (r : Left) : Type 0 where
 abbrev pub AnswerSettled : (Answer → ℕ) → Type 0
 AnswerSettled returned = (a b : Answer) → returned a ≡ returned b → a ≡ b
 
-abbrev pub NumberAlone : Call → List ℕ → Left → Type 0
+abbrev pub NumberAlone : Call → List ℕ → AfterEntry → Type 0
 NumberAlone c image r = r .result ≡ entered c image .result
 
-abbrev pub UnlessRefused : Call → List ℕ → Left → Type 0
+abbrev pub UnlessRefused : Call → List ℕ → AfterEntry → Type 0
 UnlessRefused c image r = both (isImage image) (isGood c) ≡ true → Promise c image r

@@ -13,7 +13,8 @@
 use mathlib.Core.Path.{_≡_}
 use mathlib.Core.Bool.{true}
 use Prim.Native.Nat.{ℕ}
-use Rattle.chip.specs.State.{empty, setPointer, setLci}
+use Rattle.chip.specs.State.{setPointer, setLci}
+use Rattle.chip.specs.Fifo.{empty}
 use Rattle.chip.specs.Answers.{number, value}
 use Rattle.chip.specs.Calls.{Call, Outcome, lentBy}
 use Rattle.chip.specs.declared.State.{State}
@@ -40,7 +41,7 @@ LciSet c s o = Became c (setLci true s) o
 
 pub record SameCount (s t : State) : Type 0 where
   pub shown : t .registers .count ≡ s .registers .count
-  pub beside : t .transfer .one ≡ s .transfer .one
+  pub beside : t .transfer .single ≡ s .transfer .single
 
 pub data Untaken : Fifo → Fifo → Type 0 where
   kept : {q : Fifo} → Untaken q q

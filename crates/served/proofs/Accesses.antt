@@ -12,7 +12,7 @@ use borrow.Author.Tests.{lt-ltb, lt-leb, ne-eqb}
 use Rattle.chip.specs.Choice.{pick, both, either}
 use Rattle.chip.specs.State.{setPointer}
 use Rattle.chip.specs.Interrupts.{isEnding, busy}
-use Rattle.chip.specs.Registers.{pointerSet, pointerAfter, isBlind, registerAt, readAt, writtenAt, stepped, accessedAt, accessed}
+use Rattle.chip.specs.Registers.{pointerSet, pointerAfter, isBlind, registerAt, readAt, writtenAt, stepped, accessedAt, accessed, storedIn}
 use Rattle.chip.specs.Calls.{pointer, register, Outcome, isGood, carried, step}
 use Rattle.chip.specs.declared.State.{State}
 use Rattle.chip.specs.declared.Answer.the-variants.{Done}
@@ -33,7 +33,7 @@ use Rattle.story.specs.Hosts.{Access, put, get, Note, note, Host, Program}
 use Rattle.story.specs.Schedule.{Target, Scene, replanned, access, bus, due, attended, isNone, onward, calling, Brought, now, later}
 use Rattle.story.proofs.Opening.{scenes}
 use Rattle.served.proofs.Opening.{steps}
-use Rattle.served.proofs.Parts.{theStatus, theTransfer, theState, theHost, theWire, theTarget, theScene, storedIn, stored-is}
+use Rattle.served.proofs.Parts.{theStatus, theTransfer, theState, theHost, theWire, theTarget, theScene, stored-is}
 
 abbrev gives : ℕ → State → Outcome
 gives v s = record { answer = Done v; state = s; lent = [] }

@@ -13,7 +13,7 @@ use borrow.Author.Tests.{lt-ltb, le-ltb}
 use Rattle.chip.specs.Choice.{both}
 use Rattle.chip.specs.Fifo.{waits, hasRoom}
 use Rattle.chip.specs.declared.Fifo.{Fifo}
-use Rattle.image.specs.Ok.{Bytes}
+use Rattle.chip.specs.Ok.{Bytes}
 use Rattle.served.proofs.Queue.{Lined, room-is, waits-is}
 use Rattle.served.proofs.Small.{bytes-tail, canSend, can-now}
 

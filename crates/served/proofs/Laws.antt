@@ -10,7 +10,7 @@ use lib.ListN.{length}
 use borrow.Author.Tests.{eq-eqb}
 use Rattle.chip.specs.Choice.{pick}
 use Rattle.chip.specs.Phases.{phaseNumber, comesIn}
-use Rattle.chip.specs.Calls.{step}
+use Rattle.chip.specs.Calls.{step, run}
 use Rattle.chip.specs.State.{fresh}
 use Rattle.chip.specs.declared.State.{State}
 use Rattle.chip.specs.declared.Pending.the-variants.{Nothing}
@@ -21,7 +21,7 @@ use Rattle.chip.specs.declared.Phase.the-variants.{DataOut, DataIn, CommandOut,
 use Rattle.story.specs.Story.{Item, item, items, Way, inward, outward, wayPhase, Job, loaded, story, Proper}
 use Rattle.story.specs.Hosts.{Note, Host, sentBy, byTransfer, byPhases}
 use Rattle.story.specs.Schedule.{calling, Scene, Move}
-use Rattle.story.specs.Demand.{InTime, bytesOf, notesAt, statusHeld, countHeld, countBytes, incomingData, lived, opening, Promise, sceneA, sceneB, Demand3, Demand}
+use Rattle.story.specs.Demand.{InTime, bytesOf, notesAt, statusHeld, countHeld, countBytes, incomingData, opening, Promise, sceneA, sceneB, Demand3, Demand}
 use Rattle.served.proofs.Parts.{theStatus, theTransfer, theWire, theState, theHost, theTarget, theScene, before}
 use Rattle.served.proofs.Small.{no-bytes}
 use Rattle.served.proofs.Start.{Apart, apart, transfer-plays, phases-plays}
@@ -38,17 +38,17 @@ module _ (s : State) (a : Apart s) where
   abbrev plain : State
   plain =
       theState (s .registers) (theStatus (s .status .pointer) (s .status .code) (s .status .command) (s .status .lci) (s .status .pe) Nothing) (s .fifo)
-      (theTransfer Idle (s .transfer .direction) (s .transfer .one))
-      (theWire Disconnected (s .wire .atn) false (s .wire .reported) (s .wire .last) (s .wire .identity) (s .wire .elapsed))
+      (theTransfer Idle (s .transfer .direction) (s .transfer .single))
+      (theWire Disconnected (s .wire .handshake .atn) false (s .wire .seen .reported) (s .wire .seen .last) (s .wire .identity) (s .wire .elapsed))
 
   is-plain : s ≡ plain
   is-plain =
       λ x.
       theState (s .registers) (theStatus (s .status .pointer) (s .status .code) (s .status .command) (s .status .lci) (s .status .pe) (a .pending x)) (s .fifo)
-      (theTransfer (a .running x) (s .transfer .direction) (s .transfer .one))
-      (theWire (a .connection x) (s .wire .atn) (a .ack x) (s .wire .reported) (s .wire .last) (s .wire .identity) (s .wire .elapsed))
+      (theTransfer (a .running x) (s .transfer .direction) (s .transfer .single))
+      (theWire (a .connection x) (s .wire .handshake .atn) (a .ack x) (s .wire .seen .reported) (s .wire .seen .last) (s .wire .identity) (s .wire .elapsed))
 
-module _ (j : Job) (pr : Proper j) (s : State) (a : Apart s) (patience : ℕ) (t : InTime (j .timeout) patience) where
+module _ {s₀ : State} (j : Job) (pr : Proper s₀ j) (s : State) (a : Apart s) (patience : ℕ) (t : InTime (j .timeout) patience) where
   spared : (j .timeout ≡ 0) ⊎ (0 + patience ≤ j .timeout)
   spared = ⊎-elim (λ e. inl e) (λ e. inr (omega arith)) t
 
@@ -173,4 +173,4 @@ module _ (j : Job) (pr : Proper j) (s : State) (a : Apart s) (patience : ℕ) (t
       }
 
 pub demand : Demand step
-demand earlier j patience la lb pr st t = both-hosts j pr (lived step earlier fresh) (apart earlier st) patience t la lb
+demand earlier j patience la lb pr st t = both-hosts j pr (run step earlier fresh) (apart earlier st) patience t la lb

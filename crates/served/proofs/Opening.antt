@@ -15,15 +15,15 @@ use Rattle.story.proofs.Opening.{scenes}
 
 unfoldable pub steps : Unit {0}
 unfolding scenes Choice.pick Choice.both Choice.either Lines.er Lines.lunOf Lines.isSingle Lines.codeOf Count.left Count.noneLeft Count.isLast
-    Count.lowered Count.loaded Count.meansOne Count.loadedInfo Interrupts.busy Interrupts.outgoingDropped Interrupts.raise
-    Interrupts.unread Interrupts.endingWith Interrupts.settledBy Interrupts.settled Interrupts.unlessInterrupt Info.dbr Info.unlessHalted
-    Info.parityNoted Info.atnAfter Info.infoOut Info.takenIn Info.infoTaken Info.infoIn Info.overCode Info.infoOver Info.infoRequest Info.infoFreeCode
+    Count.lowered Count.loaded Count.meansOne Count.loadedForTransferInfo Interrupts.busy Interrupts.outgoingDropped Interrupts.raise
+    Interrupts.bytesUnread Interrupts.endingWith Interrupts.settledBy Interrupts.settled Interrupts.unlessInterrupt Count.dbr Info.unlessHalted
+    Info.parityNoted Info.atnAfter Info.transferInfoSent Info.takenIn Info.transferInfoTaken Info.transferInfoOffered Info.overCode Info.transferInfoOver Info.transferInfoRequest Info.transferInfoFreeCode Info.transferInfoFree
     Sat.size Sat.unexpected Sat.sendIdentify Sat.sendCommand Sat.phaseAfter Sat.sendData Sat.takeData Sat.dataOut Sat.dataIn
-    Sat.unlessNoneLeft Sat.takeStatus Sat.takeMessage Sat.bodyRequest Sat.lateRequest Sat.completed Sat.takeComplete Sat.requestAt
-    Sat.transferRequest Sat.transferFree Sat.fromDisconnected Sat.hasSize Commands.table Commands.entryOf Commands.isReady
-    Commands.isValid Commands.selecting Commands.transferring Commands.informing Commands.carriedOut Commands.accepted
+    Sat.unlessNoneLeft Sat.takeStatus Sat.takeMessage Sat.bodyRequest Sat.lateRequest Sat.completed Sat.takeComplete Sat.requestAt Sat.stage
+    Sat.selectAndTransferRequest Sat.selectAndTransferFree Sat.fromDisconnected Sat.hasSize Commands.table Commands.entryOf Commands.isReady
+    Commands.isValid Commands.selecting Commands.selectAndTransferBegun Commands.transferInfoBegun Commands.carriedOut Commands.accepted
     Commands.isRefusedBusy Commands.commanded Registers.pointerSet Registers.auxiliaryRead Registers.dataRead Registers.dataWritten Registers.isBlind Registers.readAt
     Registers.writtenAt Registers.stepped Registers.accessedAt Registers.accessed Events.selectionTime Events.passed Events.connected
-    Events.answeredState Events.answeredSelecting Events.answered Events.idleRequest Events.requestedConnected Events.remembered
-    Events.requested Events.busFree Events.idleFree Events.freed Calls.isGood Calls.carried Calls.step
+    Events.answeredState Events.answeredSelecting Events.answered Events.idleRequest Events.requestedRunning Events.requestedConnected Events.remembered
+    Events.requested Events.busFree Events.idleFree Events.freedRunning Events.freed Calls.isGood Calls.carried Calls.step
 steps = tt

@@ -2,17 +2,13 @@
 --   theState .. theScene   a scene by its parts
 --   Aimed     where the pointer is set for the host's next access, it is that access's address
 --   Polls     the host looks, or makes the access that a look asked for, which is still as good as when it looked
---   storedIn  the registers with one written
 --   Tale, onto   the story as what has crossed and what is still to cross, and one item more crossed
 --   Plays     a list of accesses to 00 to 16h that leads to a goal, and what comes after it
 use mathlib.Core.Path.{_≡_, refl, _∙_}
 use mathlib.Core.Bool.{Bool, true, false}
 use mathlib.Core.List.{List, [], _∷_, _++_, append-assoc}
 use Prim.Native.Nat.{ℕ, _-_, _<_}
-use lib.Dec.{eqb, ltb}
-use lib.ListN.{set}
-use Rattle.chip.specs.Choice.{pick}
-use Rattle.chip.specs.Registers.{registerAt, highWritten, middleWritten, lowWritten, stored}
+use Rattle.chip.specs.Registers.{registerAt, storedIn, stored}
 use Rattle.chip.specs.declared.State.{State}
 use Rattle.chip.specs.declared.Registers.{Registers}
 use Rattle.chip.specs.declared.Status.{Status}
@@ -32,16 +28,29 @@ use Rattle.story.specs.Schedule.{Place, Target, Scene}
 
 abbrev pub theRegisters : ℕ → ℕ → ℕ → List ℕ → ℕ → ℕ → ℕ → ℕ → ℕ → ℕ → Registers
 theRegisters o c t b l p y n d s =
-    record { own = o; control = c; timeout = t; cdb = b; lun = l; phase = p; synchronous = y; count = n; destination = d; source = s }
+    record {
+      setup = record { own = o; control = c; timeout = t; synchronous = y };
+      descriptor = record { cdb = b; lun = l; phase = p };
+      count = n;
+      destination = d;
+      source = s;
+    }
 
 abbrev pub theStatus : ℕ → ℕ → ℕ → Bool → Bool → Pending → Status
 theStatus a c m l e p = record { pointer = a; code = c; command = m; lci = l; pe = e; pending = p }
 
 abbrev pub theTransfer : Running → Direction → Bool → Transfer
-theTransfer r d o = record { running = r; direction = d; one = o }
+theTransfer r d o = record { running = r; direction = d; single = o }
 
 abbrev pub theWire : Connection → Bool → Bool → Noted → Noted → Identity → ℕ → Wire
-theWire c a k r l i e = record { connection = c; atn = a; ack = k; reported = r; last = l; identity = i; elapsed = e }
+theWire c a k r l i e =
+    record {
+      connection = c;
+      handshake = record { atn = a; ack = k };
+      seen = record { reported = r; last = l };
+      identity = i;
+      elapsed = e;
+    }
 
 abbrev pub theState : Registers → Status → Fifo → Transfer → Wire → State
 theState r s q t w = record { registers = r; status = s; fifo = q; transfer = t; wire = w }
@@ -71,35 +80,11 @@ pub data Polls : Bool → Bool → Bool → List Access → Bool → ℕ → Typ
   seen : {i w o : Bool} {x : Access} {a : ℕ} → Polled i w o x → Polls i w o (x ∷ []) false a
   ready : {i w o : Bool} {x : Access} → Polled i w o x → Polls i w o (x ∷ []) true (addressOf x)
 
-unfoldable pub storedIn : ℕ → ℕ → Registers → Registers
-storedIn a b r =
-    pick (eqb a 0x00) (theRegisters b (r .control) (r .timeout) (r .cdb) (r .lun) (r .phase) (r .synchronous) (r .count) (r .destination) (r .source))
-    (pick (eqb a 0x01) (theRegisters (r .own) b (r .timeout) (r .cdb) (r .lun) (r .phase) (r .synchronous) (r .count) (r .destination) (r .source))
-    (pick (eqb a 0x02) (theRegisters (r .own) (r .control) b (r .cdb) (r .lun) (r .phase) (r .synchronous) (r .count) (r .destination) (r .source))
-    (pick (ltb a 0x0F) (theRegisters (r .own) (r .control) (r .timeout) (set (r .cdb) (a - 3) b) (r .lun) (r .phase) (r .synchronous) (r .count) (r .destination) (r .source))
-    (pick (eqb a 0x0F) (theRegisters (r .own) (r .control) (r .timeout) (r .cdb) b (r .phase) (r .synchronous) (r .count) (r .destination) (r .source))
-    (pick (eqb a 0x10) (theRegisters (r .own) (r .control) (r .timeout) (r .cdb) (r .lun) b (r .synchronous) (r .count) (r .destination) (r .source))
-    (pick (eqb a 0x11) (theRegisters (r .own) (r .control) (r .timeout) (r .cdb) (r .lun) (r .phase) b (r .count) (r .destination) (r .source))
-    (pick (eqb a 0x12) (theRegisters (r .own) (r .control) (r .timeout) (r .cdb) (r .lun) (r .phase) (r .synchronous) (highWritten b (r .count)) (r .destination) (r .source))
-    (pick (eqb a 0x13) (theRegisters (r .own) (r .control) (r .timeout) (r .cdb) (r .lun) (r .phase) (r .synchronous) (middleWritten b (r .count)) (r .destination) (r .source))
-    (pick (eqb a 0x14) (theRegisters (r .own) (r .control) (r .timeout) (r .cdb) (r .lun) (r .phase) (r .synchronous) (lowWritten b (r .count)) (r .destination) (r .source))
-    (pick (eqb a 0x15) (theRegisters (r .own) (r .control) (r .timeout) (r .cdb) (r .lun) (r .phase) (r .synchronous) (r .count) b (r .source))
-    (theRegisters (r .own) (r .control) (r .timeout) (r .cdb) (r .lun) (r .phase) (r .synchronous) (r .count) (r .destination) b)))))))))))
-
-stored-pick : (t : Bool) (x y : Registers) (s : Status) (q : Fifo) (v : Transfer) (w : Wire) (z : State)
-    → z ≡ theState y s q v w → pick t (theState x s q v w) z ≡ theState (pick t x y) s q v w
-unfolding pick
-stored-pick true x y s q v w z e = refl
-stored-pick false x y s q v w z e = e
-
 -- a write to 00 to 16h changes the registers only
 pub stored-is : (a b : ℕ) (r : Registers) (s : Status) (q : Fifo) (v : Transfer) (w : Wire)
     → stored a b (theState r s q v w) ≡ theState (storedIn a b r) s q v w
-unfolding stored storedIn
-stored-is a b r s q v w =
-    stored-pick _ _ _ s q v w _ (stored-pick _ _ _ s q v w _ (stored-pick _ _ _ s q v w _ (stored-pick _ _ _ s q v w _
-    (stored-pick _ _ _ s q v w _ (stored-pick _ _ _ s q v w _ (stored-pick _ _ _ s q v w _ (stored-pick _ _ _ s q v w _
-    (stored-pick _ _ _ s q v w _ (stored-pick _ _ _ s q v w _ (stored-pick _ _ _ s q v w _ refl))))))))))
+unfolding stored
+stored-is a b r s q v w = refl
 
 pub data Plays (after : List Access) (Goal : Registers → List Note → Type 0) : List Access → Registers → List Note → Type 0 where
   over : {r : Registers} {n : List Note} → Goal r n → Plays after Goal after r n

@@ -14,13 +14,13 @@ use borrow.Author.Tests.{lt-ltb, eq-eqb}
 use Rattle.chip.specs.Choice.{pick}
 use Rattle.chip.specs.Lines.{isOn}
 use Rattle.chip.specs.Phases.{phaseNumber, phaseOf, comesIn}
-use Rattle.chip.specs.Registers.{registerAt, highWritten, middleWritten, lowWritten}
+use Rattle.chip.specs.Registers.{registerAt, highWritten, middleWritten, lowWritten, storedIn}
 use Rattle.chip.specs.declared.Registers.{Registers}
 use Rattle.chip.specs.declared.Phase.{Phase}
 use Rattle.chip.specs.declared.Phase.the-variants.{DataOut, DataIn, CommandOut, StatusIn, UnspecifiedOut, UnspecifiedIn, MessageOut, MessageIn}
 use Rattle.story.specs.Story.{Item, item, items, Job}
 use Rattle.story.specs.Hosts.{put, Note, Host, planned, countPuts, leftGets, countFor, serving, phasesHeard}
-use Rattle.served.proofs.Parts.{storedIn, Plays, over, puts, gets}
+use Rattle.served.proofs.Parts.{Plays, over, puts, gets}
 use Rattle.served.proofs.Small.{items-snoc}
 use Rattle.served.proofs.PhaseScenes.{Seg, seg, ins, notesOf, notesAfter, Names, asked, Good, last, more, Heard, Noting, Counted}
 use Rattle.served.proofs.PhaseScenes as S

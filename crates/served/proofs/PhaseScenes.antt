@@ -26,7 +26,7 @@ use Rattle.chip.specs.declared.Noted.{Noted}
 use Rattle.chip.specs.declared.Noted.the-variants.{NoPhase, Was}
 use Rattle.chip.specs.declared.Phase.{Phase}
 use Rattle.chip.specs.declared.Phase.the-variants.{DataOut, DataIn, CommandOut, StatusIn, UnspecifiedOut, UnspecifiedIn, MessageOut, MessageIn}
-use Rattle.image.specs.Ok.{Bytes}
+use Rattle.chip.specs.Ok.{Bytes}
 use Rattle.story.specs.Story.{Item, item, items, Job}
 use Rattle.story.specs.Hosts.{Access, put, Note, note, countFor, giveFor}
 use Rattle.story.specs.Schedule.{calling, talking, away, Scene}
@@ -94,7 +94,7 @@ module _ (j : Job) (whole : List Item) (total : List Note) where
 
   -- the goal of what the host loads before the selection
   pub record Ready (r : Registers) (n : List Note) : Type 0 where
-    pub timeout : r .timeout ≡ j .timeout
+    pub timeout : r .setup .timeout ≡ j .timeout
     pub none : n ≡ []
 
   -- the goal of what it reads and loads before a phase

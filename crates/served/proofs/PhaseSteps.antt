@@ -13,14 +13,14 @@ use Rattle.chip.proofs.Cases.{true-or-false}
 use Rattle.chip.specs.Calls.{step}
 use Rattle.chip.specs.Phases.{comesIn}
 use Rattle.chip.specs.declared.State.{State}
-use Rattle.chip.specs.declared.Connection.{Connection}
 use Rattle.chip.specs.declared.Phase.{Phase}
 use Rattle.chip.specs.declared.Phase.the-variants.{MessageIn}
 use Rattle.story.specs.Story.{Item, Job}
 use Rattle.story.specs.Hosts.{Note, Host, countFor, giveFor, serving, byPhases}
 use Rattle.story.specs.Schedule.{Target, Scene, bus, access, passing}
 use Rattle.served.proofs.Opening.{steps}
-use Rattle.served.proofs.Time.{isSelecting, still, spare-on, spare-less, spared-at}
+use Rattle.served.proofs.Time.{still, spare-on, spare-less, spared-at}
+use Rattle.chip.specs.Connections.{isSelecting}
 use Rattle.served.proofs.Going.{one-out, owed-out, sending-can, one-more}
 use Rattle.served.proofs.Parts.{theScene, before, aimed, coded, taken, sent, look, seen, ready, over, puts, gets, stored-is, onto}
 use Rattle.served.proofs.Queue.{none-lined, empty-none, empty-some, room-is, waits-is, front-is, popped, pushed}
@@ -287,9 +287,9 @@ module _ (j : Job) (whole : List Item) (total : List Note) where
   work-step (draining k) = draining-work k
   work-step (ends k) = ends-work k
 
-  unmoved : (n : ℕ) (s : State) (h : Host) (t : Target) (k : Connection) → s .wire .connection ≡ k → isSelecting k ≡ false → R (theScene s h t)
+  unmoved : (n : ℕ) (s : State) (h : Host) (t : Target) → isSelecting (s .wire .connection) ≡ false → R (theScene s h t)
       → R (passing step (byPhases j) n (theScene s h t))
-  unmoved n s h t k e f r = subst (λ (c : Scene). R c) (sym (still (byPhases j) n s h t k e f)) r
+  unmoved n s h t f r = subst (λ (c : Scene). R c) (sym (still (byPhases j) n s h t f)) r
 
   -- while it is being selected, the Target lets time pass within its patience, or answers
   pub pass-step : (n : ℕ) {c : Scene} → R c → R (passing step (byPhases j) n c)
@@ -328,18 +328,18 @@ module _ (j : Job) (whole : List Item) (total : List Note) where
       (true-or-false (ltb n 256)))
       (λ r. rw r (begins (greets (no-code p) (drained k) g m w)))
       (true-or-false (ltb n pa))
-  pass-step m (begins (loads p a q t g n w)) = unmoved m _ _ _ _ refl refl (begins (loads p a q t g n w))
-  pass-step m (begins (greets p q g n w)) = unmoved m _ _ _ _ refl refl (begins (greets p q g n w))
-  pass-step m (begins (waits p q g n w)) = unmoved m _ _ _ _ refl refl (begins (waits p q g n w))
-  pass-step m (begins (named p q k g v n i w)) = unmoved m _ _ _ _ refl refl (begins (named p q k g v n i w))
-  pass-step m (begins (S.coded p a q g i w)) = unmoved m _ _ _ _ refl refl (begins (S.coded p a q g i w))
-  pass-step m (sending (sends fifo rest give p e l s a n i w)) = unmoved m _ _ _ _ refl refl (sending (sends fifo rest give p e l s a n i w))
-  pass-step m (taking (takes fifo rest y p e l bs v a n i w)) = unmoved m _ _ _ _ refl refl (taking (takes fifo rest y p e l bs v a n i w))
-  pass-step m (closing (closes p l h v n i w)) = unmoved m _ _ _ _ refl refl (closing (closes p l h v n i w))
-  pass-step m (draining (drains fifo p e l k g v n i w)) = unmoved m _ _ _ _ refl refl (draining (drains fifo p e l k g v n i w))
-  pass-step m (ends (pauses p l v n i w)) = unmoved m _ _ _ _ refl refl (ends (pauses p l v n i w))
-  pass-step m (ends (paused p q v n i w)) = unmoved m _ _ _ _ refl refl (ends (paused p q v n i w))
-  pass-step m (ends (S.negates a q v n i w)) = unmoved m _ _ _ _ refl refl (ends (S.negates a q v n i w))
-  pass-step m (ends (calm p q v n i w)) = unmoved m _ _ _ _ refl refl (ends (calm p q v n i w))
-  pass-step m (ends (gone a q v n i w)) = unmoved m _ _ _ _ refl refl (ends (gone a q v n i w))
-  pass-step m (ends (rests p q v n i w)) = unmoved m _ _ _ _ refl refl (ends (rests p q v n i w))
+  pass-step m (begins (loads p a q t g n w)) = unmoved m _ _ _ refl (begins (loads p a q t g n w))
+  pass-step m (begins (greets p q g n w)) = unmoved m _ _ _ refl (begins (greets p q g n w))
+  pass-step m (begins (waits p q g n w)) = unmoved m _ _ _ refl (begins (waits p q g n w))
+  pass-step m (begins (named p q k g v n i w)) = unmoved m _ _ _ refl (begins (named p q k g v n i w))
+  pass-step m (begins (S.coded p a q g i w)) = unmoved m _ _ _ refl (begins (S.coded p a q g i w))
+  pass-step m (sending (sends fifo rest give p e l s a n i w)) = unmoved m _ _ _ refl (sending (sends fifo rest give p e l s a n i w))
+  pass-step m (taking (takes fifo rest y p e l bs v a n i w)) = unmoved m _ _ _ refl (taking (takes fifo rest y p e l bs v a n i w))
+  pass-step m (closing (closes p l h v n i w)) = unmoved m _ _ _ refl (closing (closes p l h v n i w))
+  pass-step m (draining (drains fifo p e l k g v n i w)) = unmoved m _ _ _ refl (draining (drains fifo p e l k g v n i w))
+  pass-step m (ends (pauses p l v n i w)) = unmoved m _ _ _ refl (ends (pauses p l v n i w))
+  pass-step m (ends (paused p q v n i w)) = unmoved m _ _ _ refl (ends (paused p q v n i w))
+  pass-step m (ends (S.negates a q v n i w)) = unmoved m _ _ _ refl (ends (S.negates a q v n i w))
+  pass-step m (ends (calm p q v n i w)) = unmoved m _ _ _ refl (ends (calm p q v n i w))
+  pass-step m (ends (gone a q v n i w)) = unmoved m _ _ _ refl (ends (gone a q v n i w))
+  pass-step m (ends (rests p q v n i w)) = unmoved m _ _ _ refl (ends (rests p q v n i w))

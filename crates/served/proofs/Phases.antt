@@ -8,12 +8,13 @@ use mathlib.Core.List.{List, [], _∷_, _++_, append-nil}
 use Prim.Native.Nat.{ℕ, zero, suc, _+_, _%_, _*_, _<_}
 use native.Mathlib.Omega.{arith}
 use lib.ListN.{length, getD}
+use Rattle.chip.specs.declared.State.{State}
 use Rattle.chip.proofs.Sizes.{size-most}
 use Rattle.chip.specs.Lines.{identify, bit}
 use Rattle.chip.specs.Phases.{isMessageIn, samePhase}
 use Rattle.chip.specs.declared.Phase.{Phase}
 use Rattle.chip.specs.declared.Phase.the-variants.{CommandOut, StatusIn, MessageOut, MessageIn}
-use Rattle.image.specs.Ok.{Bytes}
+use Rattle.chip.specs.Ok.{Bytes}
 use Rattle.story.specs.Story.{Item, item, items, Way, inward, outward, wayPhase, Job, identifies, close, story, Proper}
 use Rattle.story.specs.Hosts.{Note}
 use Rattle.served.proofs.Small.{no-bytes, bytes-tail}
@@ -66,7 +67,7 @@ bytes-append (x ∷ a) b g h = joined (bytes-append a b (bytes-tail x a g) h)
     joined r zero = g 0
     joined r (suc k) = r k
 
-module _ (j : Job) (pr : Proper j) (whole : List Item) (total : List Note) where
+module _ {s₀ : State} (j : Job) (pr : Proper s₀ j) (whole : List Item) (total : List Note) where
   abbrev F : Phase → List ℕ → List ℕ → Type 0
   F p bs x = Fits j whole total p bs x
 

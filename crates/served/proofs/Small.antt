@@ -20,7 +20,7 @@ use Rattle.chip.specs.declared.Fifo.{Fifo}
 use Rattle.chip.specs.declared.Phase.{Phase}
 use Rattle.chip.specs.declared.Direction.{Direction}
 use Rattle.chip.specs.declared.Direction.the-variants.{Unfixed, In}
-use Rattle.image.specs.Ok.{Bytes}
+use Rattle.chip.specs.Ok.{Bytes}
 use Rattle.story.specs.Story.{Item, item, items}
 use Rattle.story.specs.Hosts.{Access, take, send, addressOf, askedBy, asked, nextByte, tail}
 use Rattle.served.proofs.Queue.{Lined, empty-none}

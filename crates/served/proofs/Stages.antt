@@ -2,12 +2,12 @@
 --   stage-identify, stage-next, stage-full, stage-data, stage-status   at 10h, while command bytes are taken, at the size, 46h, 50h
 use mathlib.Core.Path.{_≡_, refl, _∙_}
 use mathlib.Core.Bool.{Bool, true, false}
-use Prim.Native.Nat.{ℕ, suc, _+_, _-_, _/_, _≤_, _<_}
+use Prim.Native.Nat.{ℕ, suc, _+_, _-_, _≤_, _<_}
 use native.Mathlib.Omega.{arith}
 use lib.Dec.{eqb}
 use borrow.Author.Tests.{lt-ltb, le-ltb, eq-eqb, ne-eqb, eqb-true}
 use Rattle.chip.specs.Choice.{pick, both}
-use Rattle.chip.specs.SelectAndTransfer.{sizeOf, firstStage, nextStage, isCommandPhase, stageOf}
+use Rattle.chip.specs.SelectAndTransfer.{firstStage, nextStage, isCommandPhase, stageOf}
 use Rattle.chip.specs.declared.Stage.the-variants.{SendIdentify, SendCommand, Body, AfterData, AfterStatus}
 use Rattle.served.proofs.TransferScenes.{CommandPhase, first, later, Expects, body, late}
 

@@ -11,12 +11,16 @@ use lib.ListN.{length, set, getD}
 use lib.Seq.{set-append-seam}
 use borrow.Author.Tests.{lt-ltb, ne-eqb}
 use Rattle.chip.proofs.Sizes.{size-most}
+use Rattle.chip.proofs.Cases.{either-first, either-rest}
+use Rattle.chip.proofs.Numbers.{is-idle}
 use Rattle.chip.specs.Choice.{pick, either}
 use Rattle.chip.specs.State.{fresh}
 use Rattle.chip.specs.Lines.{bit, isOn}
 use Rattle.chip.specs.Fifo.{isEmpty}
-use Rattle.chip.specs.Interrupts.{isInterrupt, isEnding, isRunning, busy}
-use Rattle.chip.specs.Calls.{Call, step, after}
+use Rattle.chip.specs.Interrupts.{isInterrupt, isEnding, busy}
+use Rattle.chip.specs.Running.{isRunning}
+use Rattle.chip.specs.Calls.{Call, step, run}
+use Rattle.chip.specs.Registers.{storedIn}
 use Rattle.chip.specs.declared.State.{State}
 use Rattle.chip.specs.declared.Registers.{Registers}
 use Rattle.chip.specs.declared.Fifo.{Fifo}
@@ -24,21 +28,21 @@ use Rattle.chip.specs.declared.Noted.{Noted}
 use Rattle.chip.specs.declared.Connection.{Connection}
 use Rattle.chip.specs.declared.Connection.the-variants.{Disconnected}
 use Rattle.chip.specs.declared.Running.{Running}
-use Rattle.chip.specs.declared.Running.the-variants.{Idle, SelectWithAtn, SelectWithoutAtn, TransferWithAtn, TransferWithoutAtn, TransferInfo}
+use Rattle.chip.specs.declared.Running.the-variants.{Idle}
 use Rattle.chip.specs.declared.Pending.{Pending}
 use Rattle.chip.specs.declared.Pending.the-variants.{Nothing, Interrupt, Ending, ReadOut}
 use Rattle.chip.specs.declared.Direction.{Direction}
 use Rattle.chip.specs.declared.Direction.the-variants.{Unfixed, In, Out}
-use Rattle.image.specs.Ok.{Bytes}
+use Rattle.chip.specs.Ok.{Bytes}
 use Rattle.chip.specs.Interrupts.{isOutgoing}
-use Rattle.reached.specs.Sound.{Sound, Shape, with-atn, without-atn, transfer, info, joined}
+use Rattle.reached.specs.Sound.{Sound, Shape, with-atn, without-atn, select-and-transfer, transfer-info, joined}
 use Rattle.reached.specs.Sound as Sound
 use Rattle.reached.proofs.Laws.{reached}
 use Rattle.story.specs.Story.{Item, Job, loaded, Proper}
 use Rattle.story.specs.Hosts.{Access, put, Note, countPuts, transferLoads}
 use Rattle.story.specs.Hosts as H
-use Rattle.story.specs.Demand.{Start, lived}
-use Rattle.served.proofs.Parts.{theRegisters, storedIn, Plays, over, puts}
+use Rattle.story.specs.Demand.{Start}
+use Rattle.served.proofs.Parts.{theRegisters, Plays, over, puts}
 use Rattle.served.proofs.Small.{length-snoc, bytes-tail, Quiet, unfixed, drained}
 use Rattle.served.proofs.PhaseFacts.{written-count, high-byte, low-byte}
 use Rattle.served.proofs.TransferScenes as A
@@ -48,35 +52,18 @@ pub record Apart (s : State) : Type 0 where
   pub pending : s .status .pending ≡ Nothing
   pub running : s .transfer .running ≡ Idle
   pub connection : s .wire .connection ≡ Disconnected
-  pub ack : s .wire .ack ≡ false
+  pub ack : s .wire .handshake .ack ≡ false
   pub quiet : Quiet (s .transfer .direction) (s .fifo)
-  pub cdb : length (s .registers .cdb) ≡ 12
+  pub cdb : length (s .registers .descriptor .cdb) ≡ 12
 
 no-pending : (p : Pending) (r : Running) → isInterrupt p ≡ false → either (isRunning r) (isEnding p) ≡ false → p ≡ Nothing
-unfolding either
 no-pending Nothing r e f = refl
 no-pending Interrupt r e f = absurd (true≢false e)
-no-pending (Ending c) Idle e f = absurd (true≢false f)
-no-pending (Ending c) SelectWithAtn e f = absurd (true≢false f)
-no-pending (Ending c) SelectWithoutAtn e f = absurd (true≢false f)
-no-pending (Ending c) TransferWithAtn e f = absurd (true≢false f)
-no-pending (Ending c) TransferWithoutAtn e f = absurd (true≢false f)
-no-pending (Ending c) TransferInfo e f = absurd (true≢false f)
-no-pending ReadOut Idle e f = absurd (true≢false f)
-no-pending ReadOut SelectWithAtn e f = absurd (true≢false f)
-no-pending ReadOut SelectWithoutAtn e f = absurd (true≢false f)
-no-pending ReadOut TransferWithAtn e f = absurd (true≢false f)
-no-pending ReadOut TransferWithoutAtn e f = absurd (true≢false f)
-no-pending ReadOut TransferInfo e f = absurd (true≢false f)
+no-pending (Ending k) r e f = absurd (true≢false (either-rest (isRunning r) true f))
+no-pending ReadOut r e f = absurd (true≢false (either-rest (isRunning r) true f))
 
 no-command : (r : Running) (t : Bool) → either (isRunning r) t ≡ false → r ≡ Idle
-unfolding either
-no-command Idle t e = refl
-no-command SelectWithAtn t e = absurd (true≢false e)
-no-command SelectWithoutAtn t e = absurd (true≢false e)
-no-command TransferWithAtn t e = absurd (true≢false e)
-no-command TransferWithoutAtn t e = absurd (true≢false e)
-no-command TransferInfo t e = absurd (true≢false e)
+no-command r t e = is-idle r (either-first (isRunning r) t e)
 
 quiet-way : (d : Direction) {q : Fifo} → isOutgoing d ≡ false → isEmpty q ≡ true → Quiet d q
 quiet-way Unfixed e f = unfixed
@@ -88,17 +75,17 @@ record Calm (d : Direction) (q : Fifo) (k : Bool) : Type 0 where
   quiet : Quiet d q
   ack : k ≡ false
 
-calm : {one : Bool} {n : ℕ} {p : Pending} {r : Running} {c : Connection} {d : Direction} {q : Fifo} {atn ack : Bool} {w : Noted}
-    → Shape one n p r c d q atn ack w → r ≡ Idle → c ≡ Disconnected → Calm d q ack
+calm : {single : Bool} {n : ℕ} {p : Pending} {r : Running} {c : Connection} {d : Direction} {q : Fifo} {atn ack : Bool} {w : Noted}
+    → Shape single n p r c d q atn ack w → r ≡ Idle → c ≡ Disconnected → Calm d q ack
 calm {d = d} (Sound.idle e f g Sound.apart) h k = record { quiet = quiet-way d f g; ack = refl }
 calm (Sound.idle e f g joined) h k = let z : _≡_ {A = ℕ} 0 1 = cc in absurd (omega arith)
 calm (Sound.selects x f g) h k = let z : _≡_ {A = ℕ} 0 1 = cc in absurd (omega arith)
 calm (Sound.waits x y) h k = let z : _≡_ {A = ℕ} 0 1 = cc in absurd (omega arith)
-calm (Sound.transfers x y) h k = let z : _≡_ {A = ℕ} 0 1 = cc in absurd (omega arith)
-calm (Sound.informs x y) h k = let z : _≡_ {A = ℕ} 0 1 = cc in absurd (omega arith)
-calm (Sound.ending (transfer with-atn) x y) h k = let z : _≡_ {A = ℕ} 0 1 = cc in absurd (omega arith)
-calm (Sound.ending (transfer without-atn) x y) h k = let z : _≡_ {A = ℕ} 0 1 = cc in absurd (omega arith)
-calm (Sound.ending info x y) h k = let z : _≡_ {A = ℕ} 0 1 = cc in absurd (omega arith)
+calm (Sound.selectsAndTransfers x y) h k = let z : _≡_ {A = ℕ} 0 1 = cc in absurd (omega arith)
+calm (Sound.transfersInfo x y) h k = let z : _≡_ {A = ℕ} 0 1 = cc in absurd (omega arith)
+calm (Sound.ending (select-and-transfer with-atn) x y) h k = let z : _≡_ {A = ℕ} 0 1 = cc in absurd (omega arith)
+calm (Sound.ending (select-and-transfer without-atn) x y) h k = let z : _≡_ {A = ℕ} 0 1 = cc in absurd (omega arith)
+calm (Sound.ending transfer-info x y) h k = let z : _≡_ {A = ℕ} 0 1 = cc in absurd (omega arith)
 calm (Sound.readOut with-atn x) h k = let z : _≡_ {A = ℕ} 0 1 = cc in absurd (omega arith)
 calm (Sound.readOut without-atn x) h k = let z : _≡_ {A = ℕ} 0 1 = cc in absurd (omega arith)
 
@@ -110,18 +97,13 @@ of-sound s g t =
     let k = calm (g .shape) r (t .apart) in
     record { pending = p; running = r; connection = t .apart; ack = k .ack; quiet = k .quiet; cdb = g .ok .cdb-long }
 
-lived-is : (l : List Call) (s : State) → lived step l s ≡ after l s
-unfolding lived after
-lived-is [] s = refl
-lived-is (c ∷ l) s = lived-is l (step c s .state)
-
-pub apart : (l : List Call) → Start (lived step l fresh) → Apart (lived step l fresh)
-apart l t = of-sound (lived step l fresh) (subst (λ (s : State). Sound s) (sym (lived-is l fresh)) (reached l)) t
+pub apart : (l : List Call) → Start (run step l fresh) → Apart (run step l fresh)
+apart l t = of-sound (run step l fresh) (reached l) t
 
 -- ---- what the hosts load
 
 stored-cdb : (a b : ℕ) (r : Registers) → 3 ≤ a → a < 15
-    → storedIn a b r ≡ theRegisters (r .own) (r .control) (r .timeout) (set (r .cdb) (a - 3) b) (r .lun) (r .phase) (r .synchronous) (r .count) (r .destination) (r .source)
+    → storedIn a b r ≡ theRegisters (r .setup .own) (r .setup .control) (r .setup .timeout) (set (r .descriptor .cdb) (a - 3) b) (r .descriptor .lun) (r .descriptor .phase) (r .setup .synchronous) (r .count) (r .destination) (r .source)
 unfolding storedIn pick
 stored-cdb a b r h k = rw (ne-eqb a 0x00 (omega arith), ne-eqb a 0x01 (omega arith), ne-eqb a 0x02 (omega arith), lt-ltb a 0x0F k)
 
@@ -138,17 +120,17 @@ one-put : {k l : List Access} {G : Registers → List Note → Type 0} {r : Regi
     → Plays k G l (storedIn a b r) n → Plays k G (put a b ∷ l) r n
 one-put a b h i p = puts h i p
 
-module _ (j : Job) (pr : Proper j) where
+module _ {s₀ : State} (j : Job) (pr : Proper s₀ j) where
   -- the command goes into 03 and the registers behind it
   command-plays : {k : List Access} {G : Registers → List Note → Type 0} (l : List Access) (a : ℕ) (had rest behind : List ℕ) (r : Registers)
-      → a ≡ 3 + length had → Bytes rest → r .cdb ≡ had ++ behind → length had + length rest ≤ 12 → length had + length behind ≡ 12
-      → ((q : Registers) (b : List ℕ) → q .cdb ≡ (had ++ rest) ++ b → Plays k G l q [])
+      → a ≡ 3 + length had → Bytes rest → r .descriptor .cdb ≡ had ++ behind → length had + length rest ≤ 12 → length had + length behind ≡ 12
+      → ((q : Registers) (b : List ℕ) → q .descriptor .cdb ≡ (had ++ rest) ++ b → Plays k G l q [])
       → Plays k G (H.puts a rest ++ l) r []
   command-plays l a had [] behind r e b c m n f = f r behind (rw (append-nil had) c)
   command-plays l a had (x ∷ rest) [] r e b c m n f = absurd (omega arith)
   command-plays {k} {G} l a had (x ∷ rest) (y ∷ behind) r e b c m n f =
       let i : a - 3 ≡ length had = omega arith in
-      let w : set (r .cdb) (a - 3) x ≡ (had ++ (x ∷ [])) ++ behind =
+      let w : set (r .descriptor .cdb) (a - 3) x ≡ (had ++ (x ∷ [])) ++ behind =
       rw (c, i) (set-append-seam had y behind x ∙ sym (append-assoc had (x ∷ []) behind)) in
       let s : length (had ++ (x ∷ [])) ≡ suc (length had) = length-snoc had x in
       one-put a x (omega arith) (b 0)
@@ -161,7 +143,7 @@ module _ (j : Job) (pr : Proper j) where
       put 0x0F (j .unit) ∷ (countPuts (loaded j)
       ++ (put 0x15 (j .target) ∷ put 0x16 (bit (j .reselects) * 128) ∷ put 0x02 (j .timeout) ∷ put 0x18 0x08 ∷ []))
 
-  behind-plays : (r : Registers) (b : List ℕ) → r .cdb ≡ j .command ++ b → Plays (put 0x18 0x08 ∷ []) (A.Ready j) behindCommand r []
+  behind-plays : (r : Registers) (b : List ℕ) → r .descriptor .cdb ≡ j .command ++ b → Plays (put 0x18 0x08 ∷ []) (A.Ready j) behindCommand r []
   unfolding storedIn pick
   behind-plays r b e =
       one-put 0x0F (j .unit) (omega arith) (omega (arith, pr .unit-small))
@@ -182,11 +164,11 @@ module _ (j : Job) (pr : Proper j) where
   size-at-most : length (j .command) ≤ 12
   size-at-most = omega (arith, pr .command-sized, size-most (getD (j .command) 0 0))
 
-  pub transfer-plays : (r : Registers) → length (r .cdb) ≡ 12
+  pub transfer-plays : (r : Registers) → length (r .descriptor .cdb) ≡ 12
       → Plays (put 0x18 0x08 ∷ []) (A.Ready j) (transferLoads j ++ (put 0x18 0x08 ∷ [])) r []
   transfer-plays r h =
       subst (λ (l : List Access). Plays (put 0x18 0x08 ∷ []) (A.Ready j) l r []) (sym (append-assoc (H.puts 0x03 (j .command)) _ (put 0x18 0x08 ∷ [])))
-      (command-plays behindCommand 0x03 [] (j .command) (r .cdb) r refl (pr .command-bytes) refl (omega (arith, size-at-most)) (omega (arith, h)) (λ q b e. behind-plays q b e))
+      (command-plays behindCommand 0x03 [] (j .command) (r .descriptor .cdb) r refl (pr .command-bytes) refl (omega (arith, size-at-most)) (omega (arith, h)) (λ q b e. behind-plays q b e))
 
   pub phases-plays : (whole : List Item) (total : List Note) (r : Registers)
       → Plays (put 0x18 0x06 ∷ []) (B.Ready j whole total) (put 0x15 (j .target) ∷ put 0x02 (j .timeout) ∷ put 0x18 0x06 ∷ []) r []

@@ -2,58 +2,37 @@
 --   still    the scene stays as it is
 --   Spared   time is left: no timeout, or what has passed and the Target's patience are within it
 use mathlib.Core.Path.{_≡_, refl, sym, _∙_, ap, subst}
-use mathlib.Core.Bool.{Bool, true, false, true≢false}
+use mathlib.Core.Bool.{false, true≢false}
 use mathlib.Core.Logic.{_⊎_, inl, inr, ⊎-elim}
 use Prim.Native.Nat.{ℕ, _+_, _-_, _≤_, _<_}
 use native.Mathlib.Omega.{arith}
 use lib.Dec.{ltb}
 use Rattle.chip.specs.Choice.{pick}
-use Rattle.chip.specs.Interrupts.{isEnding}
-use Rattle.chip.specs.Events.{passed, passedBy}
+use Rattle.chip.specs.Events.{passed}
+use Rattle.chip.specs.Connections.{isSelecting}
 use Rattle.chip.specs.Calls.{time, isGood, carried, step}
-use Rattle.chip.specs.declared.Answer.the-variants.{Done}
+use Rattle.chip.specs.declared.Reply.{Reply}
 use Rattle.chip.specs.declared.State.{State}
-use Rattle.chip.specs.declared.Connection.{Connection}
-use Rattle.chip.specs.declared.Connection.the-variants.{Disconnected, Selecting, Waiting, Connected}
 use Rattle.story.specs.Hosts.{Host, Program}
-use Rattle.story.specs.Schedule.{Target, passing, passingBy, elapsing}
+use Rattle.story.specs.Schedule.{Target, passing, elapsing}
 use Rattle.served.proofs.Parts.{theScene}
-use Rattle.chip.proofs.Cases.{true-or-false}
+use Rattle.chip.proofs.Cases.{true-or-false, by-pick, by-case, passed-over}
 
-abbrev pub isSelecting : Connection → Bool
-isSelecting Disconnected = false
-isSelecting Selecting = true
-isSelecting Waiting = false
-isSelecting Connected = false
-
-pass-still : (n : ℕ) (s : State) (k : Connection) → s .wire .connection ≡ k → isSelecting k ≡ false → passed n s .state ≡ s
-unfolding passed pick
-pass-still n s k e f = go (isEnding (s .status .pending)) k e f
+pass-still : (n : ℕ) (s : State) → isSelecting (s .wire .connection) ≡ false → passed n s .state ≡ s
+unfolding passed
+pass-still n s f = by-pick Stays _ refl (by-case Stays _ (λ e. absurd (true≢false (sym e ∙ f))) (λ e. refl))
   where
-    go : (t : Bool) (k : Connection) → s .wire .connection ≡ k → isSelecting k ≡ false
-        → pick t (record { answer = Done 0; state = s }) (passedBy (s .wire .connection) n s) .state ≡ s
-    go true k e f = refl
-    go false Disconnected e f = rw e
-    go false Selecting e f = absurd (true≢false f)
-    go false Waiting e f = rw e
-    go false Connected e f = rw e
+    Stays : Reply → Type 0
+    Stays r = r .state ≡ s
 
-time-still : (n : ℕ) (s : State) (k : Connection) → s .wire .connection ≡ k → isSelecting k ≡ false → step (time n) s .state ≡ s
+time-still : (n : ℕ) (s : State) → isSelecting (s .wire .connection) ≡ false → step (time n) s .state ≡ s
 unfolding step isGood carried pick
-time-still n s k e f =
-    ⊎-elim (λ r. rw r (pass-still n s k e f)) (λ r. rw r) (true-or-false (ltb n 256))
+time-still n s f = ⊎-elim (λ r. rw r (pass-still n s f)) (λ r. rw r) (true-or-false (ltb n 256))
 
-pub still : (g : Program) (n : ℕ) (s : State) (h : Host) (t : Target) (k : Connection) → s .wire .connection ≡ k → isSelecting k ≡ false
+pub still : (g : Program) (n : ℕ) (s : State) (h : Host) (t : Target) → isSelecting (s .wire .connection) ≡ false
     → passing step g n (theScene s h t) ≡ theScene s h t
-unfolding passingBy elapsing
-still g n s h t k e f = go k e f (time-still n s k e f)
-  where
-    go : (k : Connection) → s .wire .connection ≡ k → isSelecting k ≡ false → step (time n) s .state ≡ s
-        → passingBy step g (s .wire .connection) n (theScene s h t) ≡ theScene s h t
-    go Disconnected e f z = ap (λ (i : Connection). passingBy step g i n (theScene s h t)) e ∙ ap (λ (x : State). theScene x h t) z
-    go Selecting e f z = absurd (true≢false f)
-    go Waiting e f z = ap (λ (i : Connection). passingBy step g i n (theScene s h t)) e ∙ ap (λ (x : State). theScene x h t) z
-    go Connected e f z = ap (λ (i : Connection). passingBy step g i n (theScene s h t)) e ∙ ap (λ (x : State). theScene x h t) z
+unfolding passing elapsing
+still g n s h t f = passed-over _ _ f ∙ ap (λ (x : State). theScene x h t) (time-still n s f)
 
 pub record Spared (timeout elapsed patience : ℕ) : Type 0 where
   pub time : (timeout ≡ 0) ⊎ (elapsed + patience ≤ timeout)

@@ -9,7 +9,7 @@ use mathlib.Core.Bool.{Bool, true, false}
 use mathlib.Core.List.{List, [], _∷_, _++_}
 use Prim.Native.Nat.{ℕ, suc, _+_, _/_, _%_}
 use lib.ListN.{length, getD}
-use Rattle.chip.specs.State.{empty}
+use Rattle.chip.specs.Fifo.{empty}
 use Rattle.chip.specs.Lines.{isOn}
 use Rattle.chip.specs.SelectAndTransfer.{sizeOf, stageOf}
 use Rattle.chip.specs.declared.Registers.{Registers}
@@ -17,14 +17,14 @@ use Rattle.chip.specs.declared.Fifo.{Fifo}
 use Rattle.chip.specs.declared.Identity.{Identity}
 use Rattle.chip.specs.declared.Stage.the-variants.{Body, AfterData}
 use Rattle.chip.specs.declared.Connection.the-variants.{Disconnected, Selecting, Connected}
-use Rattle.chip.specs.declared.Running.the-variants.{Idle, TransferWithAtn}
+use Rattle.chip.specs.declared.Running.the-variants.{Idle, SelectAndTransferWithAtn}
 use Rattle.chip.specs.declared.Pending.the-variants.{Nothing, Interrupt, Ending}
 use Rattle.chip.specs.declared.Direction.{Direction}
 use Rattle.chip.specs.declared.Direction.the-variants.{Unfixed, In, Out}
 use Rattle.chip.specs.declared.Noted.{Noted}
 use Rattle.chip.specs.declared.Phase.{Phase}
 use Rattle.chip.specs.declared.Phase.the-variants.{DataOut, DataIn, CommandOut, MessageOut, MessageIn}
-use Rattle.image.specs.Ok.{Bytes}
+use Rattle.chip.specs.Ok.{Bytes}
 use Rattle.story.specs.Story.{Item, item, items, Way, inward, outward, wayPhase, Job, loaded, identifies, close, story}
 use Rattle.story.specs.Hosts.{Access, put, Note, note}
 use Rattle.story.specs.Schedule.{calling, talking, away, Scene}
@@ -54,9 +54,9 @@ module _ (j : Job) where
 
   -- the goal of what the host loads
   pub record Ready (r : Registers) (n : List Note) : Type 0 where
-    pub set : Set (r .cdb) (r .lun) (r .source)
+    pub set : Set (r .descriptor .cdb) (r .descriptor .lun) (r .source)
     pub count : r .count ≡ loaded j
-    pub timeout : r .timeout ≡ j .timeout
+    pub timeout : r .setup .timeout ≡ j .timeout
     pub none : n ≡ []
 
   pub data Hands : Way → List ℕ → List ℕ → Type 0 where
@@ -110,7 +110,7 @@ module _ (j : Job) where
         → Bytes v
         → Reach
         (theScene
-        (theState (theRegisters ow ct tm cd lu 0x00 sy (loaded j) ds sr) (theStatus x c m l e Nothing) empty (theTransfer TransferWithAtn Unfixed false)
+        (theState (theRegisters ow ct tm cd lu 0x00 sy (loaded j) ds sr) (theStatus x c m l e Nothing) empty (theTransfer SelectAndTransferWithAtn Unfixed false)
         (theWire Selecting at false rp ls id el)) (theHost td f (wayPhase w) v [] []) (theTarget calling pa [] (storyOf w)))
     greets : {c m x pa el ow ct tm lu sy ds sr : ℕ} {l e at f : Bool} {rp ls : Noted} {id : Identity} {td : List Access} {cd v : List ℕ} {w : Way}
         → Set cd lu sr
@@ -119,7 +119,7 @@ module _ (j : Job) where
         → Bytes v
         → Reach
         (theScene
-        (theState (theRegisters ow ct tm cd lu 0x10 sy (loaded j) ds sr) (theStatus x c m l e Nothing) empty (theTransfer TransferWithAtn Unfixed false)
+        (theState (theRegisters ow ct tm cd lu 0x10 sy (loaded j) ds sr) (theStatus x c m l e Nothing) empty (theTransfer SelectAndTransferWithAtn Unfixed false)
         (theWire Connected at false rp ls id el)) (theHost td f (wayPhase w) v [] []) (theTarget talking pa [] (storyOf w)))
     commands : {c m x pa el ow ct tm lu sy ds sr ph : ℕ} {l e at f : Bool} {rp ls : Noted} {id : Identity} {td : List Access} {cd v : List ℕ} {w : Way}
         {log : List Item} (had rest d : List ℕ)
@@ -133,7 +133,7 @@ module _ (j : Job) where
         → Reach
         (theScene
         (theState (theRegisters ow ct tm cd lu ph sy (length d + length (j .beyond)) ds sr) (theStatus x c m l e Nothing) empty
-        (theTransfer TransferWithAtn Unfixed false) (theWire Connected at false rp ls id el)) (theHost td f (wayPhase w) v [] [])
+        (theTransfer SelectAndTransferWithAtn Unfixed false) (theWire Connected at false rp ls id el)) (theHost td f (wayPhase w) v [] [])
         (theTarget talking pa log (items CommandOut rest ++ (items (wayPhase w) d ++ close j))))
     comes : {c m x pa el ow ct tm lu sy ds sr ph : ℕ} {l e at f : Bool} {rp ls : Noted} {id : Identity} {td : List Access} {cd : List ℕ}
         {log got : List Item} {q : Fifo} (fifo rest : List ℕ)
@@ -147,7 +147,7 @@ module _ (j : Job) where
         → Reach
         (theScene
         (theState (theRegisters ow ct tm cd lu ph sy (length rest + length (j .beyond)) ds sr) (theStatus x c m l e Nothing) q
-        (theTransfer TransferWithAtn In false) (theWire Connected at false rp ls id el)) (theHost td f DataIn [] got [])
+        (theTransfer SelectAndTransferWithAtn In false) (theWire Connected at false rp ls id el)) (theHost td f DataIn [] got [])
         (theTarget talking pa log (items DataIn rest ++ close j)))
     goes : {c m x pa el ow ct tm lu sy ds sr ph : ℕ} {l e at f : Bool} {rp ls : Noted} {id : Identity} {td : List Access} {cd : List ℕ}
         {log : List Item} {q : Fifo} (fifo rest give : List ℕ)
@@ -161,7 +161,7 @@ module _ (j : Job) where
         → Reach
         (theScene
         (theState (theRegisters ow ct tm cd lu ph sy (length rest + length (j .beyond)) ds sr) (theStatus x c m l e Nothing) q
-        (theTransfer TransferWithAtn Out false) (theWire Connected at false rp ls id el)) (theHost td f DataOut give [] [])
+        (theTransfer SelectAndTransferWithAtn Out false) (theWire Connected at false rp ls id el)) (theHost td f DataOut give [] [])
         (theTarget talking pa log (items DataOut rest ++ close j)))
     statuses : {c m x pa el ow ct tm sy ds sr n : ℕ} {l e at f wt : Bool} {rp ls : Noted} {id : Identity} {td : List Access} {cd v : List ℕ} {hp : Phase}
         {log got : List Item} {q : Fifo} {d : Direction}
@@ -172,7 +172,7 @@ module _ (j : Job) where
         → Tale (story j) log (item MessageIn 0x00 ∷ [])
         → Reach
         (theScene
-        (theState (theRegisters ow ct tm cd (j .status) 0x50 sy n ds sr) (theStatus x c m l e Nothing) q (theTransfer TransferWithAtn d false)
+        (theState (theRegisters ow ct tm cd (j .status) 0x50 sy n ds sr) (theStatus x c m l e Nothing) q (theTransfer SelectAndTransferWithAtn d false)
         (theWire Connected at false rp ls id el)) (theHost td f hp v got []) (theTarget talking pa log (item MessageIn 0x00 ∷ [])))
     ends : {c m x pa el ow ct tm sy ds sr n b : ℕ} {l e at f : Bool} {rp ls : Noted} {id : Identity} {td : List Access} {cd v : List ℕ}
         {got : List Item} {q : Fifo} (fifo : List ℕ)
@@ -184,7 +184,7 @@ module _ (j : Job) where
         → n ≡ length (j .beyond)
         → Reach
         (theScene
-        (theState (theRegisters ow ct tm cd (j .status) 0x60 sy n ds sr) (theStatus x c m l e (Ending 0x16)) q (theTransfer TransferWithAtn In false)
+        (theState (theRegisters ow ct tm cd (j .status) 0x60 sy n ds sr) (theStatus x c m l e (Ending 0x16)) q (theTransfer SelectAndTransferWithAtn In false)
         (theWire Connected at false rp ls id el)) (theHost td f DataIn v got []) (theTarget talking pa (story j) []))
     told : {m x pa el ow ct tm sy ds sr n : ℕ} {l e at f o : Bool} {rp ls : Noted} {id : Identity} {td : List Access} {cd v : List ℕ} {hp : Phase}
         {got : List Item} {q : Fifo} {d : Direction}

@@ -10,9 +10,10 @@ use native.Mathlib.Omega.{arith}
 use lib.Dec.{ltb}
 use lib.ListN.{length, getD}
 use borrow.Author.Tests.{lt-ltb, eq-eqb, ne-eqb}
+use Rattle.chip.specs.declared.State.{State}
 use Rattle.chip.proofs.Cases.{true-or-false}
 use Rattle.chip.specs.Choice.{pick}
-use Rattle.chip.specs.State.{empty}
+use Rattle.chip.specs.Fifo.{empty}
 use Rattle.chip.specs.Calls.{step}
 use Rattle.chip.specs.Phases.{phaseNumber, phaseOf}
 use Rattle.chip.specs.Lines.{packed}
@@ -22,17 +23,17 @@ use Rattle.chip.specs.declared.Stage.the-variants.{Body}
 use Rattle.chip.specs.declared.Fifo.{Fifo}
 use Rattle.chip.specs.declared.Identity.{Identity}
 use Rattle.chip.specs.declared.Connection.the-variants.{Disconnected, Connected}
-use Rattle.chip.specs.declared.Running.the-variants.{Idle, TransferWithAtn}
+use Rattle.chip.specs.declared.Running.the-variants.{Idle, SelectAndTransferWithAtn}
 use Rattle.chip.specs.declared.Pending.the-variants.{Nothing, Interrupt, Ending}
 use Rattle.chip.specs.declared.Direction.{Direction}
 use Rattle.chip.specs.declared.Direction.the-variants.{Unfixed, In, Out}
 use Rattle.chip.specs.declared.Noted.{Noted}
 use Rattle.chip.specs.declared.Phase.{Phase}
 use Rattle.chip.specs.declared.Phase.the-variants.{DataOut, DataIn, CommandOut, StatusIn}
-use Rattle.image.specs.Ok.{Bytes}
+use Rattle.chip.specs.Ok.{Bytes}
 use Rattle.story.specs.Story.{Item, item, items, Way, wayPhase, Job, loaded, close, story, Proper}
 use Rattle.story.specs.Hosts.{Access, put, Note, Host, asked, byTransfer}
-use Rattle.story.specs.Schedule.{calling, talking, away, Scene, bus, Brought, now, Move, offer, pass, work, moves, move}
+use Rattle.story.specs.Schedule.{calling, talking, away, Scene, Brought, now, Move, offer, pass, work, moves, move}
 use Rattle.story.specs.Demand.{bytesOf, statusHeld, countHeld, countBytes, incomingData, Finished, Promise}
 use Rattle.story.proofs.Opening.{scenes}
 use Rattle.served.proofs.Opening.{steps}
@@ -46,7 +47,7 @@ use Rattle.served.proofs.Polling.{any-poll}
 use Rattle.served.proofs.TransferScenes.{CommandPhase, Expects, body, late, Set, Ready, Hands, reads, writes, Coming, some, none, Finals, finalNotes, reading, resting, Reach, loads, seeks, greets, commands, comes, goes, statuses, ends, told, calm, gone, rests}
 use Rattle.served.proofs.TransferSteps.{bus-step, pass-step, work-step, next-is, full-is, has-size, moved-byte}
 
-module _ (j : Job) (pr : Proper j) where
+module _ {s₀ : State} (j : Job) (pr : Proper s₀ j) where
   abbrev B : Scene → Type 0
   B c = Brought step (byTransfer j) c
 
@@ -59,7 +60,7 @@ module _ (j : Job) (pr : Proper j) where
       (theHost (put 0x18 0x08 ∷ []) f hp v [] n) (theTarget calling pa [] t))
   unfolding steps
   command-on {r = r} g =
-      attend (byTransfer j) _ (record { asks = refl; on = rw (lt-ltb 0 (sizeOf (getD (r .cdb) 0 0)) (has-size j pr (g .set))) (now refl) })
+      attend (byTransfer j) _ (record { asks = refl; on = rw (lt-ltb 0 (sizeOf (getD (r .descriptor .cdb) 0 0)) (has-size j pr (g .set))) (now refl) })
 
   load-on : {c m x pa el : ℕ} {l e at o f : Bool} {q : Fifo} {d : Direction} {rp ls : Noted} {id : Identity} {td : List Access} {r : Registers}
       {v : List ℕ} {n : List Note} {hp : Phase} {t : List Item}
@@ -85,7 +86,7 @@ module _ (j : Job) (pr : Proper j) where
       → Attends (byTransfer j)
       (theScene
       (theState (theRegisters ow ct tm cd lu ph sy (length (z ∷ rest) + length (j .beyond)) ds sr) (theStatus x c m l e Nothing) q
-      (theTransfer TransferWithAtn Out false) (theWire Connected at false rp ls id el)) (theHost [] false DataOut (y ∷ give) [] [])
+      (theTransfer SelectAndTransferWithAtn Out false) (theWire Connected at false rp ls id el)) (theHost [] false DataOut (y ∷ give) [] [])
       (theTarget talking pa log (item DataOut z ∷ t)))
   unfolding steps phaseOf
   give-on y z rest give n s i =
@@ -108,7 +109,7 @@ module _ (j : Job) (pr : Proper j) where
       → B
       (theScene
       (theState (theRegisters ow ct tm cd lu ph sy (length d + length (j .beyond)) ds sr) (theStatus x c m l e Nothing) empty
-      (theTransfer TransferWithAtn Unfixed false) (theWire Connected at false rp ls id el)) (theHost [] false (wayPhase w) v [] [])
+      (theTransfer SelectAndTransferWithAtn Unfixed false) (theWire Connected at false rp ls id el)) (theHost [] false (wayPhase w) v [] [])
       (theTarget talking pa log (items CommandOut rest ++ (items (wayPhase w) d ++ close j))))
   unfolding steps phaseOf
   commands-on {ph = ph} had (x ∷ rest) d s h b q e = at-once (byTransfer j) _ (rw (next-is j pr ph had x rest s q e))
@@ -131,7 +132,7 @@ module _ (j : Job) (pr : Proper j) where
       → Attends (byTransfer j)
       (theScene
       (theState (theRegisters ow ct tm cd lu ph sy (length (b ∷ rest) + length (j .beyond)) ds sr) (theStatus x c m l e Nothing) q
-      (theTransfer TransferWithAtn In false) (theWire Connected at false rp ls id el)) (theHost [] false DataIn [] got [])
+      (theTransfer SelectAndTransferWithAtn In false) (theWire Connected at false rp ls id el)) (theHost [] false DataIn [] got [])
       (theTarget talking pa log (item DataIn b ∷ t)))
   unfolding steps phaseOf
   take-on y z fifo b rest n s h =
@@ -159,7 +160,7 @@ module _ (j : Job) (pr : Proper j) where
       → B
       (theScene
       (theState (theRegisters ow ct tm cd lu ph sy (length rest + length (j .beyond)) ds sr) (theStatus x c m l e Nothing) q
-      (theTransfer TransferWithAtn In false) (theWire Connected at false rp ls id el)) (theHost [] false DataIn [] got [])
+      (theTransfer SelectAndTransferWithAtn In false) (theWire Connected at false rp ls id el)) (theHost [] false DataIn [] got [])
       (theTarget talking pa log (items DataIn rest ++ close j)))
   unfolding steps phaseOf
   come-on fifo [] n i (body s) = at-once (byTransfer j) _ (rw (s, lt-ltb (j .status) 256 (pr .status-byte)))
@@ -187,7 +188,7 @@ module _ (j : Job) (pr : Proper j) where
       → B
       (theScene
       (theState (theRegisters ow ct tm cd lu ph sy (length rest + length (j .beyond)) ds sr) (theStatus x c m l e Nothing) q
-      (theTransfer TransferWithAtn Out false) (theWire Connected at false rp ls id el)) (theHost [] false DataOut give [] [])
+      (theTransfer SelectAndTransferWithAtn Out false) (theWire Connected at false rp ls id el)) (theHost [] false DataOut give [] [])
       (theTarget talking pa log (items DataOut rest ++ close j)))
   unfolding steps phaseOf
   go-on fifo [] give n i (body s) = at-once (byTransfer j) _ (rw (s, lt-ltb (j .status) 256 (pr .status-byte)))
@@ -215,7 +216,7 @@ module _ (j : Job) (pr : Proper j) where
       → Lined q (b ∷ fifo)
       → B
       (theScene
-      (theState (theRegisters ow ct tm cd (j .status) 0x60 sy n ds sr) (theStatus x c m l e (Ending 0x16)) q (theTransfer TransferWithAtn In false)
+      (theState (theRegisters ow ct tm cd (j .status) 0x60 sy n ds sr) (theStatus x c m l e (Ending 0x16)) q (theTransfer SelectAndTransferWithAtn In false)
       (theWire Connected at false rp ls id el)) (theHost [] false DataIn v got []) (theTarget talking pa log []))
   unfolding steps
   end-on [] n =

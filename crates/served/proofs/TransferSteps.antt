@@ -4,7 +4,7 @@ use mathlib.Core.Path.{_≡_, refl, sym, _∙_, ap, subst}
 use mathlib.Core.Bool.{Bool, true, false, true≢false, false≢true}
 use mathlib.Core.List.{List, [], _∷_, _++_, append-assoc, append-nil}
 use mathlib.Core.Logic.{⊎-elim}
-use Prim.Native.Nat.{ℕ, suc, _+_, _/_, _%_, _≤_, _<_}
+use Prim.Native.Nat.{ℕ, suc, _+_, _/_, _%_, _<_}
 use native.Mathlib.Omega.{arith}
 use native.Mathlib.Nat.{zero-add}
 use lib.Dec.{ltb}
@@ -21,16 +21,16 @@ use Rattle.chip.specs.Registers.{registerAt}
 use Rattle.chip.specs.SelectAndTransfer.{sizeOf, stageOf}
 use Rattle.chip.specs.declared.State.{State}
 use Rattle.chip.specs.declared.Registers.{Registers}
-use Rattle.chip.specs.declared.Connection.{Connection}
 use Rattle.chip.specs.declared.Stage.the-variants.{SendCommand, Body}
 use Rattle.chip.specs.declared.Phase.the-variants.{DataIn, CommandOut, MessageOut}
-use Rattle.image.specs.Ok.{Bytes}
+use Rattle.chip.specs.Ok.{Bytes}
 use Rattle.story.specs.Story.{Item, item, items, Way, inward, outward, wayPhase, Job, identifies, close, Proper, story}
 use Rattle.story.specs.Hosts.{Access, get, Note, note, Host, countGets, byTransfer}
 use Rattle.story.specs.Schedule.{Target, Scene, bus, access, passing}
 use Rattle.story.specs.Demand.{incomingData}
 use Rattle.served.proofs.Opening.{steps}
-use Rattle.served.proofs.Time.{isSelecting, still, spare-on, spare-less, spared-at}
+use Rattle.served.proofs.Time.{still, spare-on, spare-less, spared-at}
+use Rattle.chip.specs.Connections.{isSelecting}
 use Rattle.served.proofs.Going.{one-out, owed-out, sending-can, one-more}
 use Rattle.served.proofs.Parts.{theScene, before, aimed, coded, taken, sent, look, seen, ready, Plays, over, puts, gets, stored-is, Tale, onto}
 use Rattle.served.proofs.Queue.{none-lined, empty-none, empty-some, room-is, waits-is, front-is, popped, pushed}
@@ -47,7 +47,7 @@ first-of : (command behind cd : List ℕ) → 0 < length command → cd ≡ comm
 first-of [] behind cd h e = absurd (omega arith)
 first-of (b ∷ command) behind cd h e = rw e
 
-module _ (j : Job) (pr : Proper j) where
+module _ {s₀ : State} (j : Job) (pr : Proper s₀ j) where
   size-is : {cd : List ℕ} {lu src : ℕ} → Set j cd lu src → sizeOf (getD cd 0 0) ≡ length (j .command)
   size-is {cd = cd} s = ap sizeOf (first-of (j .command) (s .behind) cd (pr .command-some) (s .cdb)) ∙ sym (pr .command-sized)
 
@@ -181,9 +181,9 @@ module _ (j : Job) (pr : Proper j) where
   bus-step (gone k q e b) = gone k q e b
   bus-step (rests p n q e b) = rests p n q e b
 
-  unmoved : (n : ℕ) (s : State) (h : Host) (t : Target) (k : Connection) → s .wire .connection ≡ k → isSelecting k ≡ false → Reach j (theScene s h t)
+  unmoved : (n : ℕ) (s : State) (h : Host) (t : Target) → isSelecting (s .wire .connection) ≡ false → Reach j (theScene s h t)
       → Reach j (passing step (byTransfer j) n (theScene s h t))
-  unmoved n s h t k e f r = subst (λ (c : Scene). Reach j c) (sym (still (byTransfer j) n s h t k e f)) r
+  unmoved n s h t f r = subst (λ (c : Scene). Reach j c) (sym (still (byTransfer j) n s h t f)) r
 
   -- while it is being selected, the Target lets time pass within its patience, or answers
   pub pass-step : (n : ℕ) {c : Scene} → Reach j c → Reach j (passing step (byTransfer j) n c)
@@ -205,17 +205,17 @@ module _ (j : Job) (pr : Proper j) where
       (true-or-false (ltb n 256)))
       (λ r. rw r (greets s p h b))
       (true-or-false (ltb n pa))
-  pass-step n (loads p a h t b) = unmoved n _ _ _ _ refl refl (loads p a h t b)
-  pass-step n (greets s p h b) = unmoved n _ _ _ _ refl refl (greets s p h b)
-  pass-step n (commands had rest d s p h b q e t) = unmoved n _ _ _ _ refl refl (commands had rest d s p h b q e t)
-  pass-step n (comes fifo rest w s p q i x t) = unmoved n _ _ _ _ refl refl (comes fifo rest w s p q i x t)
-  pass-step n (goes fifo rest give w s p q i x t) = unmoved n _ _ _ _ refl refl (goes fifo rest give w s p q i x t)
-  pass-step n (statuses p f b z t) = unmoved n _ _ _ _ refl refl (statuses p f b z t)
-  pass-step n (ends fifo p w q i b z) = unmoved n _ _ _ _ refl refl (ends fifo p w q i b z)
-  pass-step n (told p q e b z) = unmoved n _ _ _ _ refl refl (told p q e b z)
-  pass-step n (calm k q e b) = unmoved n _ _ _ _ refl refl (calm k q e b)
-  pass-step n (gone k q e b) = unmoved n _ _ _ _ refl refl (gone k q e b)
-  pass-step n (rests p m q e b) = unmoved n _ _ _ _ refl refl (rests p m q e b)
+  pass-step n (loads p a h t b) = unmoved n _ _ _ refl (loads p a h t b)
+  pass-step n (greets s p h b) = unmoved n _ _ _ refl (greets s p h b)
+  pass-step n (commands had rest d s p h b q e t) = unmoved n _ _ _ refl (commands had rest d s p h b q e t)
+  pass-step n (comes fifo rest w s p q i x t) = unmoved n _ _ _ refl (comes fifo rest w s p q i x t)
+  pass-step n (goes fifo rest give w s p q i x t) = unmoved n _ _ _ refl (goes fifo rest give w s p q i x t)
+  pass-step n (statuses p f b z t) = unmoved n _ _ _ refl (statuses p f b z t)
+  pass-step n (ends fifo p w q i b z) = unmoved n _ _ _ refl (ends fifo p w q i b z)
+  pass-step n (told p q e b z) = unmoved n _ _ _ refl (told p q e b z)
+  pass-step n (calm k q e b) = unmoved n _ _ _ refl (calm k q e b)
+  pass-step n (gone k q e b) = unmoved n _ _ _ refl (gone k q e b)
+  pass-step n (rests p m q e b) = unmoved n _ _ _ refl (rests p m q e b)
 
   one-read : {got : List Item} (x : ℕ) (fifo rest : List ℕ) → Coming j got (x ∷ fifo) rest → Coming j (got ++ (item DataIn x ∷ [])) fifo rest
   one-read x fifo rest i =
@@ -237,7 +237,7 @@ module _ (j : Job) (pr : Proper j) where
   closes-on (puts u k p) = reading (puts u k p) before
   closes-on (gets u p) = reading (gets u p) before
 
-  pub final-plays : (r : Registers) → r .lun ≡ j .status → r .count ≡ length (j .beyond) → Plays [] (Finals j) (get 0x0F ∷ countGets) r []
+  pub final-plays : (r : Registers) → r .descriptor .lun ≡ j .status → r .count ≡ length (j .beyond) → Plays [] (Finals j) (get 0x0F ∷ countGets) r []
   unfolding registerAt pick
   final-plays r e f =
       gets {a = 0x0F} (omega arith)
@@ -250,14 +250,14 @@ module _ (j : Job) (pr : Proper j) where
       high : n / 65536 % 256 ≡ n / 65536
       high = omega (arith, pr .count-fits)
 
-      notes-are : note 0x0F (r .lun) ∷ note 0x12 (r .count / 65536 % 256) ∷ note 0x13 (r .count / 256 % 256) ∷ note 0x14 (r .count % 256) ∷ [] ≡ finalNotes j
+      notes-are : note 0x0F (r .descriptor .lun) ∷ note 0x12 (r .count / 65536 % 256) ∷ note 0x13 (r .count / 256 % 256) ∷ note 0x14 (r .count % 256) ∷ [] ≡ finalNotes j
       notes-are = rw (e, f, high)
 
   pub work-step : {c : Scene} → Reach j c → Reach j (access step (byTransfer j) c)
   unfolding steps
   work-step (loads (over g) before h t b) = loads (over g) aimed h t b
   work-step (loads (over {r = r} g) aimed h t b) =
-      rw (lt-ltb 0 (sizeOf (getD (r .cdb) 0 0)) (has-size (g .set)), g .count, g .none)
+      rw (lt-ltb 0 (sizeOf (getD (r .descriptor .cdb) 0 0)) (has-size (g .set)), g .count, g .none)
       (seeks (g .set) look h (spared-at (g .timeout) t) b)
   work-step (loads (puts {a = a} {b = x} u k p) before h t b) = rw (lt-ltb a 256 (omega arith)) (loads (puts u k p) aimed h t b)
   work-step (loads (puts {a = a} {b = x} u k p) aimed h t b) =

@@ -37,17 +37,19 @@ pub fn connection(s: State) -> Connection
 }
 
 pub fn reported(s: State) -> Noted
-    ensures { λ r. ⌜ r ≡ s .wire .reported ⌝ }
+    ensures { λ r. ⌜ r ≡ s .wire .seen .reported ⌝ }
 {
     let part = s.wire;
-    part.reported
+    let seen = part.seen;
+    seen.reported
 }
 
 pub fn last(s: State) -> Noted
-    ensures { λ r. ⌜ r ≡ s .wire .last ⌝ }
+    ensures { λ r. ⌜ r ≡ s .wire .seen .last ⌝ }
 {
     let part = s.wire;
-    part.last
+    let seen = part.seen;
+    seen.last
 }
 
 pub fn identity(s: State) -> Identity

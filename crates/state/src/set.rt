@@ -1,22 +1,25 @@
 // A state with one field changed: set::phase(s, x) is the definition setPhase x s.
 ghost use mathlib.Core.Path.{_≡_};
-ghost use Rattle.chip.specs.State.{setOwn, setControl, setTimeout, setCdb, setLun, setPhase, setSynchronous, setCount, setDestination, setSource, setPointer, setCode, setCommand, setLci, setPe, setPending, setRunning, setDirection, setOne, setConnection, setAtn, setAck, setReported, setLast, setElapsed, setFifo};
+ghost use Rattle.chip.specs.State.{setRegisters, setControl, setLun, setPhase, setCount, setSource, setPointer, setCode, setCommand, setLci, setPe, setPending, setRunning, setDirection, setSingle, setConnection, setAtn, setAck, setSeen, setReported, setLast, setElapsed, setFifo};
+use crate::get;
 use chip::Connection;
 use chip::Direction;
 use chip::Fifo;
 use chip::Noted;
 use chip::Pending;
+use chip::Registers;
 use chip::Running;
+use chip::Seen;
 use chip::State;
 use chip::Status;
 use chip::Transfer;
 use chip::Wire;
 
-pub fn own(s: State, x: u8) -> State
-    ensures { λ r. ⌜ r ≡ setOwn x s ⌝ }
+pub fn registers(s: State, x: Registers) -> State
+    ensures { λ r. ⌜ r ≡ setRegisters x s ⌝ }
 {
     let mut t = s;
-    t.registers.own = x;
+    t.registers = x;
     t
 }
 
@@ -24,25 +27,7 @@ pub fn control(s: State, x: u8) -> State
     ensures { λ r. ⌜ r ≡ setControl x s ⌝ }
 {
     let mut t = s;
-    t.registers.control = x;
-    t
-}
-
-pub fn timeout(s: State, x: u8) -> State
-    ensures { λ r. ⌜ r ≡ setTimeout x s ⌝ }
-{
-    let mut t = s;
-    t.registers.timeout = x;
-    t
-}
-
-pub fn cdb(s: State, x: [u8; 12]) -> State
-    ensures { λ r. ⌜ r ≡ setCdb x s ⌝ }
-{
-    let mut t = s;
-    let mut registers = s.registers;
-    registers.cdb = x;
-    t.registers = registers;
+    t.registers.setup.control = x;
     t
 }
 
@@ -50,7 +35,7 @@ pub fn lun(s: State, x: u8) -> State
     ensures { λ r. ⌜ r ≡ setLun x s ⌝ }
 {
     let mut t = s;
-    t.registers.lun = x;
+    t.registers.descriptor.lun = x;
     t
 }
 
@@ -58,15 +43,7 @@ pub fn phase(s: State, x: u8) -> State
     ensures { λ r. ⌜ r ≡ setPhase x s ⌝ }
 {
     let mut t = s;
-    t.registers.phase = x;
-    t
-}
-
-pub fn synchronous(s: State, x: u8) -> State
-    ensures { λ r. ⌜ r ≡ setSynchronous x s ⌝ }
-{
-    let mut t = s;
-    t.registers.synchronous = x;
+    t.registers.descriptor.phase = x;
     t
 }
 
@@ -75,14 +52,6 @@ pub fn count(s: State, x: u32) -> State
 {
     let mut t = s;
     t.registers.count = x;
-    t
-}
-
-pub fn destination(s: State, x: u8) -> State
-    ensures { λ r. ⌜ r ≡ setDestination x s ⌝ }
-{
-    let mut t = s;
-    t.registers.destination = x;
     t
 }
 
@@ -159,7 +128,7 @@ pub fn running(s: State, x: Running) -> State
     let transfer = Transfer {
         running: x,
         direction,
-        one: p.one,
+        single: p.single,
     };
     let mut t = s;
     t.transfer = transfer;
@@ -174,18 +143,18 @@ pub fn direction(s: State, x: Direction) -> State
     let transfer = Transfer {
         running,
         direction: x,
-        one: p.one,
+        single: p.single,
     };
     let mut t = s;
     t.transfer = transfer;
     t
 }
 
-pub fn one(s: State, x: bool) -> State
-    ensures { λ r. ⌜ r ≡ setOne x s ⌝ }
+pub fn single(s: State, x: bool) -> State
+    ensures { λ r. ⌜ r ≡ setSingle x s ⌝ }
 {
     let mut t = s;
-    t.transfer.one = x;
+    t.transfer.single = x;
     t
 }
 
@@ -193,15 +162,13 @@ pub fn connection(s: State, x: Connection) -> State
     ensures { λ r. ⌜ r ≡ setConnection x s ⌝ }
 {
     let p = s.wire;
-    let reported = p.reported;
-    let last = p.last;
+    let handshake = p.handshake;
+    let seen = p.seen;
     let identity = p.identity;
     let wire = Wire {
         connection: x,
-        atn: p.atn,
-        ack: p.ack,
-        reported,
-        last,
+        handshake,
+        seen,
         identity,
         elapsed: p.elapsed,
     };
@@ -214,7 +181,7 @@ pub fn atn(s: State, x: bool) -> State
     ensures { λ r. ⌜ r ≡ setAtn x s ⌝ }
 {
     let mut t = s;
-    t.wire.atn = x;
+    t.wire.handshake.atn = x;
     t
 }
 
@@ -222,50 +189,41 @@ pub fn ack(s: State, x: bool) -> State
     ensures { λ r. ⌜ r ≡ setAck x s ⌝ }
 {
     let mut t = s;
-    t.wire.ack = x;
+    t.wire.handshake.ack = x;
+    t
+}
+
+fn seen(s: State, x: Seen) -> State
+    ensures { λ r. ⌜ r ≡ setSeen x s ⌝ }
+{
+    let p = s.wire;
+    let connection = p.connection;
+    let handshake = p.handshake;
+    let identity = p.identity;
+    let wire = Wire {
+        connection,
+        handshake,
+        seen: x,
+        identity,
+        elapsed: p.elapsed,
+    };
+    let mut t = s;
+    t.wire = wire;
     t
 }
 
 pub fn reported(s: State, x: Noted) -> State
     ensures { λ r. ⌜ r ≡ setReported x s ⌝ }
 {
-    let p = s.wire;
-    let connection = p.connection;
-    let last = p.last;
-    let identity = p.identity;
-    let wire = Wire {
-        connection,
-        atn: p.atn,
-        ack: p.ack,
-        reported: x,
-        last,
-        identity,
-        elapsed: p.elapsed,
-    };
-    let mut t = s;
-    t.wire = wire;
-    t
+    let last = get::last(s);
+    seen(s, Seen { reported: x, last })
 }
 
 pub fn last(s: State, x: Noted) -> State
     ensures { λ r. ⌜ r ≡ setLast x s ⌝ }
 {
-    let p = s.wire;
-    let connection = p.connection;
-    let reported = p.reported;
-    let identity = p.identity;
-    let wire = Wire {
-        connection,
-        atn: p.atn,
-        ack: p.ack,
-        reported,
-        last: x,
-        identity,
-        elapsed: p.elapsed,
-    };
-    let mut t = s;
-    t.wire = wire;
-    t
+    let reported = get::reported(s);
+    seen(s, Seen { reported, last: x })
 }
 
 pub fn elapsed(s: State, x: u8) -> State

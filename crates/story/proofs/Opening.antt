@@ -7,7 +7,7 @@ use Rattle.story.specs.Schedule as W
 
 unfoldable pub scenes : Unit {0}
 unfolding H.planned H.noting H.taking H.sending H.made W.took W.valued W.placed W.logged W.waiting W.shown W.offered W.hosted W.replanned
-    W.offering W.busBy W.offerTaken W.elapsing W.passingBy W.looking W.pointing W.accessing W.accessBy W.dueBy W.onward W.move W.moves
+    W.offering W.busBy W.offerTaken W.elapsing W.selecting W.passing W.looking W.pointing W.accessing W.accessBy W.dueBy W.onward W.move W.moves
 scenes = tt
 
 unfoldable pub runs : Unit {0}

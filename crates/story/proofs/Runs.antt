@@ -12,13 +12,14 @@ use native.Mathlib.Omega.{arith}
 use lib.Dec.{ltb}
 use lib.ListN.{getD}
 use borrow.Author.Tests.{ltb-true}
+use Rattle.chip.specs.declared.State.{State}
 use Rattle.chip.proofs.Cases.{both-first, both-second}
 use Rattle.chip.specs.Choice.{pick, both, either}
 use Rattle.chip.specs.State.{fresh}
 use Rattle.chip.specs.Interrupts.{busy}
 use Rattle.chip.specs.SelectAndTransfer.{sizeOf}
 use Rattle.chip.specs.Calls.{step}
-use Rattle.image.specs.Ok.{Bytes}
+use Rattle.chip.specs.Ok.{Bytes}
 use Rattle.story.specs.Story.{Way, inward, outward, Proper}
 use Rattle.story.specs.Hosts.{byTransfer, byPhases}
 use Rattle.story.specs.Demand.{Start, InTime, sceneA, sceneB}
@@ -73,9 +74,9 @@ bytes (b ∷ l) e = joined (bytes l (both-second (ltb b 256) (areBytes l) e))
     joined r zero = ltb-true b 256 (both-first (ltb b 256) (areBytes l) e)
     joined r (suc k) = r k
 
-pub proper-small : (w : Way) → Proper (small w)
+pub proper-small : (s : State) (w : Way) → Proper s (small w)
 unfolding both sizeOf pick
-proper-small w =
+proper-small s w =
     record {
       unit-small = omega arith;
       command-bytes = bytes (small w .command) refl;

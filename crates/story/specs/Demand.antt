@@ -20,14 +20,14 @@ use Rattle.chip.specs.Choice.{pick}
 use Rattle.chip.specs.State.{fresh}
 use Rattle.chip.specs.Phases.{samePhase}
 use Rattle.chip.specs.Interrupts.{interrupted, busy}
-use Rattle.chip.specs.Calls.{Call, Outcome}
+use Rattle.chip.specs.Calls.{Call, Outcome, run}
 use Rattle.chip.specs.declared.State.{State}
 use Rattle.chip.specs.declared.Phase.{Phase}
 use Rattle.chip.specs.declared.Phase.the-variants.{DataIn, StatusIn}
 use Rattle.chip.specs.declared.Connection.the-variants.{Disconnected}
 use Rattle.story.specs.Story.{Item, item, Way, inward, outward, Job, loaded, story, Proper}
 use Rattle.story.specs.Hosts.{Note, note, Host, Program, starting, byTransfer, byPhases}
-use Rattle.story.specs.Schedule.{calling, away, Target, Scene, Move, moves, due, Brought}
+use Rattle.story.specs.Schedule.{calling, away, Scene, Move, moves, due, Brought}
 
 pub record Start (s : State) : Type 0 where
   pub read : interrupted s ≡ false
@@ -68,11 +68,6 @@ incomingData inward l = l
 incomingData outward l = []
 
 module _ (does : Call → State → Outcome) where
-  -- the controller after an earlier life
-  unfoldable pub lived : List Call → State → State
-  lived [] s = s
-  lived (c ∷ l) s = lived l (does c s .state)
-
   module _ (j : Job) where
     -- a host before a controller, and the Target at the start of its story
     abbrev pub opening : Program → ℕ → State → Scene
@@ -83,21 +78,21 @@ module _ (does : Call → State → Outcome) where
           target = record { place = calling; patience = patience; log = []; ahead = story j };
         }
 
-    pub record Finished (g : Program) (c : Scene) : Type 0 where
-      pub free : c .target .place ≡ away
-      pub rest : due does g c ≡ []
+    pub record Finished (g : Program) (z : Scene) : Type 0 where
+      pub free : z .target .place ≡ away
+      pub rest : due does g z ≡ []
 
-    pub record Promise (g : Program) (c : Scene) : Type 0 where
+    pub record Promise (g : Program) (z : Scene) : Type 0 where
       -- what has crossed is a first part of the story
-      pub so-far : (rest : List Item) × (c .target .log ++ rest ≡ story j)
+      pub so-far : (rest : List Item) × (z .target .log ++ rest ≡ story j)
       -- all of it when the bus is free again, and the host has all data that came in
-      pub all : c .target .place ≡ away → c .target .log ≡ story j
-      pub data-in : c .target .place ≡ away → dataHeld (c .host) ≡ incomingData (j .way) (j .moved)
+      pub all : z .target .place ≡ away → z .target .log ≡ story j
+      pub data-in : z .target .place ≡ away → dataHeld (z .host) ≡ incomingData (j .way) (j .moved)
       -- once the host has nothing left to do, it holds the status, and the count left by the data
-      pub status : Finished g c → statusHeld (c .host) ≡ j .status ∷ []
-      pub count : Finished g c → 1 ≤ length (j .moved) → countHeld (c .host) ≡ countBytes (loaded j - length (j .moved))
+      pub status : Finished g z → statusHeld (z .host) ≡ j .status ∷ []
+      pub count : Finished g z → 1 ≤ length (j .moved) → countHeld (z .host) ≡ countBytes (loaded j - length (j .moved))
       -- the Target is brought on, and with the bus free the host comes to its end
-      pub on : Brought does g c
+      pub on : Brought does g z
 
     pub record Same (a b : Host) : Type 0 where
       pub the-data : dataHeld a ≡ dataHeld b
@@ -119,5 +114,5 @@ module _ (does : Call → State → Outcome) where
 
   abbrev pub Demand : Type 0
   Demand =
-      (earlier : List Call) (j : Job) (patience : ℕ) (la lb : List Move) → Proper j → Start (lived earlier fresh) → InTime (j .timeout) patience
-      → Demand3 j (lived earlier fresh) patience la lb
+      (earlier : List Call) (j : Job) (patience : ℕ) (la lb : List Move) → Proper (run does earlier fresh) j → Start (run does earlier fresh) → InTime (j .timeout) patience
+      → Demand3 j (run does earlier fresh) patience la lb

@@ -139,7 +139,7 @@ module _ (j : Job) where
       ++ (put 0x15 (j .target) ∷ put 0x16 (bit (j .reselects) * 128) ∷ put 0x02 (j .timeout) ∷ [])))
 
   abbrev pub transferHeard : ℕ → Host → Host
-  transferHeard c h = pick (eqb c 0x16) (planned (get 0x0F ∷ countGets) h) h
+  transferHeard k h = pick (eqb k 0x16) (planned (get 0x0F ∷ countGets) h) h
 
   abbrev pub byTransfer : Program
   byTransfer =
@@ -197,9 +197,9 @@ module _ (j : Job) where
   -- 11h: it is connected, and waits for the first phase; 20h: Message In is over and ACK is held; 85h: the bus is free; the other codes
   -- name a phase in their low three bits
   unfoldable pub phasesHeard : ℕ → Host → Host
-  phasesHeard c h =
-      pick (eqb c 0x11) h
-      (pick (eqb c 0x20) (planned (put 0x18 0x03 ∷ []) h) (pick (eqb c 0x85) h (serving (phaseOf (c % 8)) h)))
+  phasesHeard k h =
+      pick (eqb k 0x11) h
+      (pick (eqb k 0x20) (planned (put 0x18 0x03 ∷ []) h) (pick (eqb k 0x85) h (serving (phaseOf (k % 8)) h)))
 
   abbrev pub byPhases : Program
   byPhases =

@@ -57,6 +57,6 @@ crossed [] = []
 crossed (item p b ∷ l) = phaseNumber p ∷ b ∷ crossed l
 
 abbrev pub report : (Call → State → Outcome) → Program → Scene → List ℕ
-report does g c =
-    (bit (isAway (c .target .place)) ∷ bit (isNone (due does g c)) ∷ crossed (c .target .log))
-    ++ (dataHeld (c .host) ++ (statusHeld (c .host) ++ countHeld (c .host)))
+report does g z =
+    (bit (isAway (z .target .place)) ∷ bit (isNone (due does g z)) ∷ crossed (z .target .log))
+    ++ (dataHeld (z .host) ++ (statusHeld (z .host) ++ countHeld (z .host)))

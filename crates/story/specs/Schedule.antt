@@ -19,11 +19,10 @@ use lib.Dec.{eqb, ltb}
 use Rattle.chip.specs.Choice.{pick}
 use Rattle.chip.specs.Answers.{number, value}
 use Rattle.chip.specs.Phases.{phaseNumber, comesIn}
-use Rattle.chip.specs.Calls.{Call, pointer, auxiliary, register, time, answer, request, free, Outcome}
+use Rattle.chip.specs.Calls.{Call, pointer, auxiliary, time, answer, request, free, Outcome}
 use Rattle.chip.specs.declared.State.{State}
 use Rattle.chip.specs.declared.Phase.{Phase}
-use Rattle.chip.specs.declared.Connection.{Connection}
-use Rattle.chip.specs.declared.Connection.the-variants.{Disconnected, Selecting, Waiting, Connected}
+use Rattle.chip.specs.Connections.{isSelecting}
 use Rattle.story.specs.Story.{Item, item}
 use Rattle.story.specs.Hosts.{Access, put, get, code, take, send, Host, Program, planned, addressOf, callOf, asked, made}
 
@@ -66,15 +65,15 @@ shown p b = pick (comesIn p) b 0
 
 -- a call by the Target: only what is taken moves it on
 unfoldable pub offered : Target → Outcome → Scene → Scene
-offered t o c = record { chip = o .state; host = c .host; target = pick (took o) t (c .target) }
+offered t o z = record { chip = o .state; host = z .host; target = pick (took o) t (z .target) }
 
 -- a call by the host
 unfoldable pub hosted : Host → Outcome → Scene → Scene
-hosted h o c = record { chip = o .state; host = h; target = c .target }
+hosted h o z = record { chip = o .state; host = h; target = z .target }
 
 -- the host's next accesses are l
 unfoldable pub replanned : List Access → Scene → Scene
-replanned l c = record { chip = c .chip; host = planned l (c .host); target = c .target }
+replanned l z = record { chip = z .chip; host = planned l (z .host); target = z .target }
 
 abbrev pub isNone : List Access → Bool
 isNone [] = true
@@ -89,103 +88,100 @@ module _ (does : Call → State → Outcome) (g : Program) where
   -- the Target
 
   unfoldable pub offering : List Item → Scene → Scene
-  offering [] c = offered (placed away (c .target)) (does free (c .chip)) c
-  offering (item p b ∷ l) c =
-      let o = does (request (phaseNumber p) (shown p b) 0) (c .chip) in
-      offered (logged (item p (valued o)) l (c .target)) o c
+  offering [] z = offered (placed away (z .target)) (does free (z .chip)) z
+  offering (item p b ∷ l) z =
+      let o = does (request (phaseNumber p) (shown p b) 0) (z .chip) in
+      offered (logged (item p (valued o)) l (z .target)) o z
 
   unfoldable pub busBy : Place → Scene → Scene
-  busBy calling c = offered (placed talking (c .target)) (does answer (c .chip)) c
-  busBy talking c = offering (c .target .ahead) c
-  busBy away c = c
+  busBy calling z = offered (placed talking (z .target)) (does answer (z .chip)) z
+  busBy talking z = offering (z .target .ahead) z
+  busBy away z = z
 
   abbrev pub bus : Scene → Scene
-  bus c = busBy (c .target .place) c
+  bus z = busBy (z .target .place) z
 
   -- would the Target's next move be taken?
   unfoldable pub offerTaken : List Item → Scene → Bool
-  offerTaken [] c = took (does free (c .chip))
-  offerTaken (item p b ∷ l) c = took (does (request (phaseNumber p) (shown p b) 0) (c .chip))
+  offerTaken [] z = took (does free (z .chip))
+  offerTaken (item p b ∷ l) z = took (does (request (phaseNumber p) (shown p b) 0) (z .chip))
 
   -- time
 
   unfoldable pub elapsing : ℕ → Scene → Scene
-  elapsing n c = record { chip = does (time n) (c .chip) .state; host = c .host; target = c .target }
+  elapsing n z = record { chip = does (time n) (z .chip) .state; host = z .host; target = z .target }
 
   -- "a Target that answers selection in time": while it is being selected it lets time pass as long as its patience lasts, and answers
   -- before it would be over
-  unfoldable pub passingBy : Connection → ℕ → Scene → Scene
-  passingBy Disconnected n c = elapsing n c
-  passingBy Selecting n c =
-      pick (ltb n (c .target .patience))
-      (elapsing n (record { chip = c .chip; host = c .host; target = waiting n (c .target) }))
-      (bus c)
-  passingBy Waiting n c = elapsing n c
-  passingBy Connected n c = elapsing n c
+  unfoldable pub selecting : ℕ → Scene → Scene
+  selecting n z =
+      pick (ltb n (z .target .patience))
+      (elapsing n (record { chip = z .chip; host = z .host; target = waiting n (z .target) }))
+      (bus z)
 
-  abbrev pub passing : ℕ → Scene → Scene
-  passing n c = passingBy (c .chip .wire .connection) n c
+  unfoldable pub passing : ℕ → Scene → Scene
+  passing n z = pick (isSelecting (z .chip .wire .connection)) (selecting n z) (elapsing n z)
 
   -- the host
 
   unfoldable pub looking : Outcome → Scene → Scene
-  looking o c = hosted (planned (asked (valued o) (c .host .phase)) (c .host)) o c
+  looking o z = hosted (planned (asked (valued o) (z .host .phase)) (z .host)) o z
 
   unfoldable pub pointing : Outcome → Scene → Scene
-  pointing o c =
+  pointing o z =
       hosted
-      (record { ahead = c .host .ahead; pointed = true; phase = c .host .phase; give = c .host .give; got = c .host .got; noted = c .host .noted })
-      o c
+      (record { ahead = z .host .ahead; pointed = true; phase = z .host .phase; give = z .host .give; got = z .host .got; noted = z .host .noted })
+      o z
 
   unfoldable pub accessing : Access → List Access → Outcome → Scene → Scene
-  accessing x l o c = hosted (made g x (valued o) (planned l (c .host))) o c
+  accessing x l o z = hosted (made g x (valued o) (planned l (z .host))) o z
 
   unfoldable pub accessBy : List Access → Bool → Scene → Scene
-  accessBy [] pointed c = looking (does auxiliary (c .chip)) c
-  accessBy (x ∷ l) false c = pointing (does (pointer 1 (addressOf x)) (c .chip)) c
-  accessBy (x ∷ l) true c = accessing x l (does (callOf x (c .host)) (c .chip)) c
+  accessBy [] pointed z = looking (does auxiliary (z .chip)) z
+  accessBy (x ∷ l) false z = pointing (does (pointer 1 (addressOf x)) (z .chip)) z
+  accessBy (x ∷ l) true z = accessing x l (does (callOf x (z .host)) (z .chip)) z
 
   abbrev pub access : Scene → Scene
-  access c = accessBy (c .host .ahead) (c .host .pointed) c
+  access z = accessBy (z .host .ahead) (z .host .pointed) z
 
   -- what the host's program has come to; where that is to look, or an access that came of a look, what the current state asks for
   unfoldable pub dueBy : List Access → Scene → List Access
-  dueBy [] c = asked (valued (does auxiliary (c .chip))) (c .host .phase)
-  dueBy (put a b ∷ l) c = put a b ∷ l
-  dueBy (get a ∷ l) c = get a ∷ l
-  dueBy (code ∷ l) c = asked (valued (does auxiliary (c .chip))) (c .host .phase)
-  dueBy (take ∷ l) c = asked (valued (does auxiliary (c .chip))) (c .host .phase)
-  dueBy (send ∷ l) c = asked (valued (does auxiliary (c .chip))) (c .host .phase)
+  dueBy [] z = asked (valued (does auxiliary (z .chip))) (z .host .phase)
+  dueBy (put a b ∷ l) z = put a b ∷ l
+  dueBy (get a ∷ l) z = get a ∷ l
+  dueBy (code ∷ l) z = asked (valued (does auxiliary (z .chip))) (z .host .phase)
+  dueBy (take ∷ l) z = asked (valued (does auxiliary (z .chip))) (z .host .phase)
+  dueBy (send ∷ l) z = asked (valued (does auxiliary (z .chip))) (z .host .phase)
 
   abbrev pub due : Scene → List Access
-  due c = dueBy (c .host .ahead) c
+  due z = dueBy (z .host .ahead) z
 
   -- the first access that is due is made: the pointer is set, then the register is read or written
   abbrev pub attended : Scene → Scene
-  attended c = access (access (replanned (due c) c))
+  attended z = access (access (replanned (due z) z))
 
   -- the Target's next move is taken; with the bus free, the host has nothing left to do
   unfoldable pub onward : Place → Scene → Bool
-  onward calling c = took (does answer (c .chip))
-  onward talking c = offerTaken (c .target .ahead) c
-  onward away c = isNone (due c)
+  onward calling z = took (does answer (z .chip))
+  onward talking z = offerTaken (z .target .ahead) z
+  onward away z = isNone (due z)
 
   pub data Brought : Scene → Type 0 where
-    now : {c : Scene} → onward (c .target .place) c ≡ true → Brought c
-    later : {c : Scene} → isNone (due (bus c)) ≡ false → Brought (attended (bus c)) → Brought c
+    now : {z : Scene} → onward (z .target .place) z ≡ true → Brought z
+    later : {z : Scene} → isNone (due (bus z)) ≡ false → Brought (attended (bus z)) → Brought z
 
   -- how many accesses bring it on: the measure that each of them lowers by one
-  abbrev pub accesses : {c : Scene} → Brought c → ℕ
+  abbrev pub accesses : {z : Scene} → Brought z → ℕ
   accesses (now e) = 0
   accesses (later e b) = suc (accesses b)
 
   -- any interleaving
 
   unfoldable pub move : Move → Scene → Scene
-  move offer c = bus c
-  move (pass n) c = passing n c
-  move work c = access c
+  move offer z = bus z
+  move (pass n) z = passing n z
+  move work z = access z
 
   unfoldable pub moves : List Move → Scene → Scene
-  moves [] c = c
-  moves (m ∷ l) c = moves l (move m c)
+  moves [] z = z
+  moves (m ∷ l) z = moves l (move m z)

@@ -6,17 +6,18 @@
 --   Job       one command: what the host asks for and what the Target does
 --   story     all that crosses
 --   loaded    the loaded count n
---   Proper    the numbers of a job are bytes, and the command has the size of its group
+--   Proper s  the numbers of a job are bytes, and the command has the size that a controller in s gives it
 use mathlib.Core.Path.{_≡_}
 use mathlib.Core.Bool.{Bool}
 use mathlib.Core.List.{List, [], _∷_, _++_}
 use Prim.Native.Nat.{ℕ, _+_, _<_}
 use lib.ListN.{length, getD}
+use Rattle.chip.specs.declared.State.{State}
 use Rattle.chip.specs.declared.Phase.{Phase}
 use Rattle.chip.specs.declared.Phase.the-variants.{DataOut, DataIn, CommandOut, StatusIn, MessageOut, MessageIn}
 use Rattle.chip.specs.Lines.{identify}
-use Rattle.chip.specs.SelectAndTransfer.{sizeOf}
-use Rattle.image.specs.Ok.{Bytes}
+use Rattle.chip.specs.SelectAndTransfer.{sizeFor}
+use Rattle.chip.specs.Ok.{Bytes}
 
 pub data Item : Type 0 where
   item : Phase → ℕ → Item
@@ -59,12 +60,12 @@ close j = item StatusIn (j .status) ∷ item MessageIn 0x00 ∷ []
 abbrev pub story : Job → List Item
 story j = item MessageOut (identifies j) ∷ (items CommandOut (j .command) ++ (items (wayPhase (j .way)) (j .moved) ++ close j))
 
-pub record Proper (j : Job) : Type 0 where
+pub record Proper (s : State) (j : Job) : Type 0 where
   pub unit-small : j .unit < 8
   pub command-bytes : Bytes (j .command)
   -- groups 0, 1 and 5 have a size, 6, 10 or 12; the others have none
   pub command-some : 0 < length (j .command)
-  pub command-sized : length (j .command) ≡ sizeOf (getD (j .command) 0 0)
+  pub command-sized : length (j .command) ≡ sizeFor s (getD (j .command) 0 0)
   pub moved-bytes : Bytes (j .moved)
   pub beyond-bytes : Bytes (j .beyond)
   pub count-fits : loaded j < 16777216

@@ -9,7 +9,7 @@
 --   completes-row saves-row overruns-row surprises-row spoils-row last-row asks-row   Requests
 --   info-free-row cuts-transfer-row leaves-transfer-row read-out-row idle-free-row    Free
 --   transfer-freed     .. while a Select-And-Transfer runs
-use mathlib.Core.Path.{_≡_, refl, ap, ap₂, _∙_}
+use mathlib.Core.Path.{_≡_, refl, ap, _∙_}
 use mathlib.Core.Bool.{Bool, true, false, not}
 use Prim.Native.Nat.{ℕ, _+_}
 use lib.Dec.{eqb}
@@ -20,18 +20,17 @@ use Rattle.chip.specs.Lines.{idi}
 use Rattle.chip.specs.Fifo.{isEmpty, hasRoom, push}
 use Rattle.chip.specs.State.{setFifo}
 use Rattle.chip.specs.Count.{noneLeft, lowered}
-use Rattle.chip.specs.Interrupts.{isInterrupt, isEnding, endingWith, raise, outgoingDropped, withoutOutgoing, closed, unread, isIncoming, unlessInterrupt}
+use Rattle.chip.specs.Interrupts.{isInterrupt, isEnding, endingWith, raise, outgoingDropped, withoutOutgoing, closed, bytesUnread, isIncoming, isOutgoing, unlessInterrupt}
 use Rattle.chip.specs.TransferInfo as I
 use Rattle.chip.specs.SelectAndTransfer as X
 use Rattle.chip.specs.Events as E
-use Rattle.chip.specs.Events.{isTransfer}
+use Rattle.chip.specs.Running.{isSelectAndTransfer, isTransferInfo}
 use Rattle.chip.specs.Calls.{Outcome, request, free, isGood, isSet, step, carried}
 use Rattle.chip.specs.declared.State.{State}
 use Rattle.chip.specs.declared.Reply.{Reply}
-use Rattle.chip.specs.declared.Connection.{Connection}
 use Rattle.chip.specs.declared.Connection.the-variants.{Connected}
 use Rattle.chip.specs.declared.Running.{Running}
-use Rattle.chip.specs.declared.Running.the-variants.{Idle, SelectWithAtn, SelectWithoutAtn, TransferWithAtn, TransferWithoutAtn, TransferInfo}
+use Rattle.chip.specs.declared.Running.the-variants.{TransferInfo}
 use Rattle.chip.specs.declared.Stage.{Stage}
 use Rattle.chip.specs.declared.Stage.the-variants.{SendIdentify, SendCommand, Body, AfterData, Disconnecting, Reselected, AfterStatus, Elsewhere}
 use Rattle.chip.specs.declared.Direction.{Direction}
@@ -41,11 +40,15 @@ use Rattle.chip.specs.declared.Phase.the-variants.{DataOut, DataIn, CommandOut,
 use Rattle.chip.specs.declared.Fifo.{Fifo}
 use Rattle.chip.specs.declared.Pending.{Pending}
 use Rattle.chip.specs.declared.Pending.the-variants.{Interrupt, Ending, ReadOut}
-use Rattle.unread.specs.Because.{Quiet, Offered, LastMessage, isIdle, isOut, isSpent, stage, expects, expectsBody, expectsLate, wants, fits, halts, isBeforeStatus}
-use Rattle.chip.proofs.Cases.{by-pick, by-test, both-first, both-second, either-second, either-first, either-rest}
-use Rattle.unread.proofs.Choosing.{taken, passed-over, clash, not-first, second-fails, second-holds}
-use Rattle.unread.proofs.Bus.{remembered-keeps, info-wants, info-spent, by-stage, pushed}
+use Rattle.unread.specs.Because.{Quiet, Offered, LastMessage, isIdle, isSpent, expects, expectsBody, expectsLate, wants, fits, halts, isBeforeStatus}
+use Rattle.chip.specs.SelectAndTransfer.{stage}
+use Rattle.chip.proofs.Cases.{by-pick, by-test, both-first, both-second, either-second, either-first, either-rest, taken, passed-over}
+use Rattle.unread.proofs.Choosing.{clash, not-first, second-fails, second-holds}
+use Rattle.unread.proofs.Bus.{remembered-keeps, info-wants, info-spent, by-stage}
+use Rattle.chip.proofs.FifoLaws.{push-some}
 use Rattle.unread.proofs.Told.{good-step}
+use Rattle.chip.proofs.Numbers.{is-transfer-info}
+use Rattle.chip.specs.Connections.{isConnected}
 
 pub record Seen : Type 0 where
   pub code : ℕ
@@ -72,7 +75,7 @@ load t = record { fifo = t .fifo; direction = t .transfer .direction }
 
 pub record Ended (k : ℕ) (w : Bool) (v : Load) (t : State) : Type 0 where
   pub raised-now : w ≡ false → Raised k t
-  pub all-read : w ≡ false → unread t ≡ false
+  pub all-read : w ≡ false → bytesUnread t ≡ false
   pub read-first : w ≡ true → t .status .pending ≡ Ending k
   pub kept : w ≡ true → load t ≡ v
 
@@ -80,13 +83,13 @@ pub raised-by : {k : ℕ} {t : State} (u : State) → seen t ≡ seen (raise k u
 unfolding raise
 raised-by u e = record { code = ap (λ (x : Seen). x .code) e; int = ap (λ (x : Seen). x .pending) e }
 
-unread-seen : (s t : State) → seen s ≡ seen t → unread s ≡ unread t
-unfolding unread
+unread-seen : (s t : State) → seen s ≡ seen t → bytesUnread s ≡ bytesUnread t
+unfolding bytesUnread
 unread-seen s t e = ap (λ (x : Seen). both (isIncoming (x .direction)) (not (isEmpty (x .fifo)))) e
 
 -- an outgoing FIFO that is dropped was never unread
-raise-unread : (k : ℕ) (u : State) → unread (raise k u) ≡ unread u
-unfolding unread raise outgoingDropped both
+raise-unread : (k : ℕ) (u : State) → bytesUnread (raise k u) ≡ bytesUnread u
+unfolding bytesUnread raise outgoingDropped both
 raise-unread k u = by-way (u .transfer .direction)
   where
     by-way : (d : Direction)
@@ -98,7 +101,7 @@ raise-unread k u = by-way (u .transfer .direction)
 abbrev loadSeen : Seen → Load
 loadSeen x = record { fifo = x .fifo; direction = x .direction }
 
-pub ended-by : {k : ℕ} {w : Bool} {t : State} (u : State) → seen t ≡ seen (endingWith k u) → unread u ≡ w → Ended k w (load u) t
+pub ended-by : {k : ℕ} {w : Bool} {t : State} (u : State) → seen t ≡ seen (endingWith k u) → bytesUnread u ≡ w → Ended k w (load u) t
 unfolding endingWith pick
 ended-by {k} {t = t} u e f =
     record {
@@ -133,38 +136,41 @@ command-goes-out UnspecifiedIn e = clash e refl
 command-goes-out MessageOut e = refl
 command-goes-out MessageIn e = clash e refl
 
-informs : (r : Running) → isIdle r ≡ false → isTransfer r ≡ false → r ≡ TransferInfo
-informs Idle i t = clash refl i
-informs SelectWithAtn i t = clash refl i
-informs SelectWithoutAtn i t = clash refl i
-informs TransferWithAtn i t = clash refl t
-informs TransferWithoutAtn i t = clash refl t
-informs TransferInfo i t = refl
+informs : (r : Running) → isIdle r ≡ false → isSelectAndTransfer r ≡ false → r ≡ TransferInfo
+informs r i t = is-transfer-info r (not-false _ (rw t at i))
+
+-- an idle controller, connected, runs none of the commands that Requests are for
+idle-transfers : (r : Running) → isIdle r ≡ true → isSelectAndTransfer r ≡ false
+idle-transfers r e = by-test (isSelectAndTransfer r) (λ t. clash e (rw t)) (λ t. t)
+
+idle-informs : (r : Running) → isIdle r ≡ true → isTransferInfo r ≡ false
+idle-informs r e = by-test (isTransferInfo r) (λ i. clash e (rw (idle-transfers r e, i))) (λ i. i)
 
 module _ (n b m : ℕ) (s : State) where
   reaches : {p : Phase} → Offered n b m p s
-      → seen (step (request n b m) s .state) ≡ shown (E.servedBy (s .transfer .running) p b (isSet m) s)
+      → seen (step (request n b m) s .state) ≡ shown (E.requestedRunning p b (isSet m) s)
   unfolding carried E.requested E.requestedConnected
   reaches o =
       ap (λ (x : Outcome). seen (x .state)) (good-step (request n b m) s (o .good)) ∙ remembered-keeps seen (λ x t. refl) (phaseOf n) _
       ∙ ap shown
-      (ap₂ (λ (x : Connection) (q : Phase). E.requestedBy x q b (isSet m) s) (o .connected) (o .phase)
+      (taken _ _ (ap isConnected (o .connected)) ∙ ap (λ (q : Phase). E.requestedConnected q b (isSet m) s) (o .phase)
       ∙ passed-over _ _ (ap isEnding (o .quiet)) ∙ passed-over _ _ (o .released))
 
   -- a Select-And-Transfer serves by its stage
-  serves : (p : Phase) → isTransfer (s .transfer .running) ≡ true
-      → E.servedBy (s .transfer .running) p b (isSet m) s ≡ X.requestAt (stage s) p b (isSet m) s
-  unfolding X.transferRequest stage
-  serves p e = by-running (s .transfer .running) e
-    where
-      by-running : (r : Running) → isTransfer r ≡ true
-          → E.servedBy r p b (isSet m) s ≡ X.requestAt (X.stageOf (E.setsAtn r) (s .registers .phase) (X.size s)) p b (isSet m) s
-      by-running Idle e = clash e refl
-      by-running SelectWithAtn e = clash e refl
-      by-running SelectWithoutAtn e = clash e refl
-      by-running TransferWithAtn e = refl
-      by-running TransferWithoutAtn e = refl
-      by-running TransferInfo e = clash e refl
+  serves : (p : Phase) → isSelectAndTransfer (s .transfer .running) ≡ true
+      → E.requestedRunning p b (isSet m) s ≡ X.requestAt (stage s) p b (isSet m) s
+  unfolding E.requestedRunning X.selectAndTransferRequest
+  serves p e = taken _ _ e
+
+  -- a Transfer Info
+  serves-info : (p : Phase) → s .transfer .running ≡ TransferInfo → E.requestedRunning p b (isSet m) s ≡ I.transferInfoRequest p b (isSet m) s
+  unfolding E.requestedRunning
+  serves-info p e = passed-over _ _ (ap isSelectAndTransfer e) ∙ taken _ _ (ap isTransferInfo e)
+
+  -- no command that Requests are for
+  serves-idle : (p : Phase) → isIdle (s .transfer .running) ≡ true → E.requestedRunning p b (isSet m) s ≡ E.idleRequest p s
+  unfolding E.requestedRunning
+  serves-idle p e = passed-over _ _ (idle-transfers (s .transfer .running) e) ∙ passed-over _ _ (idle-informs (s .transfer .running) e)
 
   message-surprises : either (eqb b 0x02) (eqb b 0x04) ≡ false → X.takeMessage b (isSet m) s ≡ X.unexpected MessageIn s
   unfolding X.takeMessage
@@ -186,7 +192,7 @@ module _ (n b m : ℕ) (s : State) where
   out-surprises In e = turned-surprises DataOut
   out-surprises Out e = spent-surprises DataOut _ e
 
-  in-surprises : (d : Direction) → both (not (noneLeft s)) (not (isOut d)) ≡ false
+  in-surprises : (d : Direction) → both (not (noneLeft s)) (not (isOutgoing d)) ≡ false
       → X.unlessNoneLeft DataIn s (X.dataIn d b (isSet m) s) ≡ X.unexpected DataIn s
   unfolding X.dataIn
   in-surprises Unfixed e = spent-surprises DataIn _ e
@@ -242,7 +248,7 @@ module _ (n b m : ℕ) (s : State) where
     unfolding X.takeData
     take-halts r = taken _ _ r ∙ halted _
 
-    in-halts : (d : Direction) → both (not (noneLeft s)) (not (isOut d)) ≡ true → hasRoom (s .fifo) ≡ true
+    in-halts : (d : Direction) → both (not (noneLeft s)) (not (isOutgoing d)) ≡ true → hasRoom (s .fifo) ≡ true
         → X.unlessNoneLeft DataIn s (X.dataIn d b (isSet m) s) ≡ I.halted s
     unfolding X.unlessNoneLeft X.dataIn
     in-halts Unfixed e r = passed-over _ _ (not-true _ (both-first _ _ e)) ∙ take-halts r
@@ -291,17 +297,17 @@ module _ (n b m : ℕ) (s : State) where
   unfolding I.unlessHalted halts
   unless-sound r h = passed-over _ _ h
 
-  transfer-reaches : {p : Phase} {r : Reply} → Offered n b m p s → isTransfer (s .transfer .running) ≡ true
+  transfer-reaches : {p : Phase} {r : Reply} → Offered n b m p s → isSelectAndTransfer (s .transfer .running) ≡ true
       → X.requestAt (stage s) p b (isSet m) s ≡ r → seen (step (request n b m) s .state) ≡ shown r
   transfer-reaches {p} o t e = reaches o ∙ ap shown (serves p t ∙ e)
 
   info-reaches : {p : Phase} {r : Reply} → Offered n b m p s → s .transfer .running ≡ TransferInfo
-      → I.infoRequest p b (isSet m) s ≡ r → seen (step (request n b m) s .state) ≡ shown r
-  info-reaches {p} o t e = reaches o ∙ ap shown (ap (λ (r : Running). E.servedBy r p b (isSet m) s) t ∙ e)
+      → I.transferInfoRequest p b (isSet m) s ≡ r → seen (step (request n b m) s .state) ≡ shown r
+  info-reaches {p} o t e = reaches o ∙ ap shown (serves-info p t ∙ e)
 
-  pub completes-row : Offered n b m MessageIn s → isTransfer (s .transfer .running) ≡ true → stage s ≡ AfterStatus → eqb b 0x00 ≡ true
-      → halts m s ≡ false → Ended 0x16 (unread s) (load s) (step (request n b m) s .state)
-  unfolding X.requestAt X.takeComplete X.completed I.parityNoted unread both
+  pub completes-row : Offered n b m MessageIn s → isSelectAndTransfer (s .transfer .running) ≡ true → stage s ≡ AfterStatus → eqb b 0x00 ≡ true
+      → halts m s ≡ false → Ended 0x16 (bytesUnread s) (load s) (step (request n b m) s .state)
+  unfolding X.requestAt X.takeComplete X.completed I.parityNoted bytesUnread both
   completes-row o t at e h =
       ended-by _
       (transfer-reaches o t
@@ -319,33 +325,33 @@ module _ (n b m : ℕ) (s : State) where
   before-status AfterStatus e = clash e refl
   before-status Elsewhere e = clash e refl
 
-  pub saves-row : Offered n b m MessageIn s → isTransfer (s .transfer .running) ≡ true → isBeforeStatus (stage s) ≡ true → eqb b 0x02 ≡ true
-      → halts m s ≡ false → Ended 0x21 (unread s) (load s) (step (request n b m) s .state)
-  unfolding X.takeMessage X.takeSave I.parityNoted unread
+  pub saves-row : Offered n b m MessageIn s → isSelectAndTransfer (s .transfer .running) ≡ true → isBeforeStatus (stage s) ≡ true → eqb b 0x02 ≡ true
+      → halts m s ≡ false → Ended 0x21 (bytesUnread s) (load s) (step (request n b m) s .state)
+  unfolding X.takeMessage X.takeSave I.parityNoted bytesUnread
   saves-row o t g e h =
       ended-by _
       (transfer-reaches o t (before-status (stage s) g ∙ taken _ _ e ∙ unless-sound _ h ∙ open-event s _ (o .quiet)))
       refl
 
   over-row : {p : Phase} → Offered n b m p s → s .transfer .running ≡ TransferInfo → wants p b s ≡ false
-      → Ended (I.overCode p s) (unread s) (load s) (step (request n b m) s .state)
-  unfolding I.infoRequest I.infoOver unread
+      → Ended (I.overCode p s) (bytesUnread s) (load s) (step (request n b m) s .state)
+  unfolding I.transferInfoRequest I.transferInfoOver bytesUnread
   over-row {p} o t w =
       ended-by _ (info-reaches o t (passed-over _ _ (rw (← (info-wants p b s t)) w) ∙ open-event s _ (o .quiet))) refl
 
   pub overruns-row : {p : Phase} → Offered n b m p s → isIdle (s .transfer .running) ≡ false → isSpent s ≡ true
-      → Ended (0x18 + phaseNumber p) (unread s) (load s) (step (request n b m) s .state)
+      → Ended (0x18 + phaseNumber p) (bytesUnread s) (load s) (step (request n b m) s .state)
   unfolding isSpent I.overCode pick
   overruns-row {p} o r e =
       let t : s .transfer .running ≡ TransferInfo = informs _ r (not-true _ (both-first _ _ e)) in
-      let l : noneLeft s ≡ true = both-second (not (isTransfer (s .transfer .running))) _ e in
+      let l : noneLeft s ≡ true = both-second (not (isSelectAndTransfer (s .transfer .running))) _ e in
       rw l at (over-row o t (info-wants p b s t ∙ second-fails _ _ (rw l)))
 
   pub surprises-row : {p : Phase} → Offered n b m p s → isIdle (s .transfer .running) ≡ false → wants p b s ≡ false → isSpent s ≡ false
-      → Ended (0x48 + phaseNumber p) (unread s) (load s) (step (request n b m) s .state)
-  unfolding X.unexpected I.overCode unread pick
+      → Ended (0x48 + phaseNumber p) (bytesUnread s) (load s) (step (request n b m) s .state)
+  unfolding X.unexpected I.overCode bytesUnread pick
   surprises-row {p} o r w e =
-      by-test (isTransfer (s .transfer .running))
+      by-test (isSelectAndTransfer (s .transfer .running))
       (λ t. ended-by _
       (transfer-reaches o t
       (stage-surprises (stage s) p (rw (← (by-stage p b s (stage s) t refl)) w) ∙ open-event s _ (o .quiet)))
@@ -353,10 +359,10 @@ module _ (n b m : ℕ) (s : State) where
       (λ t. let i : s .transfer .running ≡ TransferInfo = informs _ r t in rw (← (info-spent s i), e) at (over-row o i w))
 
   pub spoils-row : {p : Phase} → Offered n b m p s → isIdle (s .transfer .running) ≡ false → wants p b s ≡ true → comesIn p ≡ true
-      → fits p s ≡ true → halts m s ≡ true → Ended 0x43 (unread s) (load s) (step (request n b m) s .state)
-  unfolding I.infoRequest I.infoIn I.halted unread fits both
+      → fits p s ≡ true → halts m s ≡ true → Ended 0x43 (bytesUnread s) (load s) (step (request n b m) s .state)
+  unfolding I.transferInfoRequest I.transferInfoOffered I.halted bytesUnread fits both
   spoils-row {p} o r w c f h =
-      by-test (isTransfer (s .transfer .running))
+      by-test (isSelectAndTransfer (s .transfer .running))
       (λ t. ended-by _
       (transfer-reaches o t
       (stage-halts h (stage s) p (rw (← (by-stage p b s (stage s) t refl)) w) c (λ d. room (rw (t, d))) ∙ open-event s _ (o .quiet)))
@@ -367,87 +373,67 @@ module _ (n b m : ℕ) (s : State) where
       (taken _ _ (rw (← (info-wants p b s i)) w) ∙ taken _ _ c ∙ taken _ _ (room (rw t)) ∙ halted h _ ∙ open-event s _ (o .quiet)))
       refl)
     where
-      room : both (isTransfer (s .transfer .running)) (not (samePhase p DataIn)) ≡ false → hasRoom (s .fifo) ≡ true
+      room : both (isSelectAndTransfer (s .transfer .running)) (not (samePhase p DataIn)) ≡ false → hasRoom (s .fifo) ≡ true
       room e = either-second _ _ f e
 
   -- the last Message In byte: it is unread itself, where it comes in
   pub last-row : LastMessage n b m s → Ended 0x20 (isIncoming (s .transfer .direction)) (load (setFifo (push b (s .fifo)) s)) (step (request n b m) s .state)
-  unfolding I.infoRequest I.infoIn I.infoTaken I.takenIn I.parityNoted lowered unread both
+  unfolding I.transferInfoRequest I.transferInfoOffered I.transferInfoTaken I.takenIn I.parityNoted lowered bytesUnread both
   last-row l =
       ended-by _
       (info-reaches (l .offered) (l .runs)
       (taken _ _ (rw (← (info-wants MessageIn b s (l .runs))) (l .wanted)) ∙ taken _ _ refl ∙ taken _ _ (l .room)
       ∙ unless-sound _ (l .sound) ∙ taken _ _ (l .last) ∙ open-event s _ (l .offered .quiet)))
-      (second-holds _ _ (rw (pushed b (s .fifo) (l .room))))
+      (second-holds _ _ (rw (push-some b (s .fifo) (l .room))))
 
-  pub asks-row : {p : Phase} → Offered n b m p s → isIdle (s .transfer .running) ≡ true → isNoted p (s .wire .reported) ≡ false
+  pub asks-row : {p : Phase} → Offered n b m p s → isIdle (s .transfer .running) ≡ true → isNoted p (s .wire .seen .reported) ≡ false
       → Raised (0x88 + phaseNumber p) (step (request n b m) s .state)
   unfolding E.idleRequest
   asks-row {p} o e f =
-      raised-by _ (reaches o ∙ ap shown (by-running (s .transfer .running) e ∙ passed-over _ _ f ∙ open-event s _ (o .quiet)))
-    where
-      by-running : (r : Running) → isIdle r ≡ true → E.servedBy r p b (isSet m) s ≡ E.idleRequest p s
-      by-running Idle e = refl
-      by-running SelectWithAtn e = refl
-      by-running SelectWithoutAtn e = refl
-      by-running TransferWithAtn e = clash e refl
-      by-running TransferWithoutAtn e = clash e refl
-      by-running TransferInfo e = clash e refl
+      raised-by _ (reaches o ∙ ap shown (serves-idle p e ∙ passed-over _ _ f ∙ open-event s _ (o .quiet)))
 
 -- the rows of a Free
 
 module _ (s : State) (q : Quiet s) (x : s .wire .connection ≡ Connected) where
-  free-reaches : {r : Reply} → E.freedFrom (s .transfer .running) s ≡ r → seen (step free s .state) ≡ shown r
+  free-reaches : {r : Reply} → E.freedRunning s ≡ r → seen (step free s .state) ≡ shown r
   unfolding carried E.freed
   free-reaches e =
       ap (λ (o : Outcome). seen (o .state)) (good-step free s is-good)
-      ∙ ap shown (ap (λ (c : Connection). E.freedBy c s) x ∙ passed-over _ _ (ap isEnding q) ∙ e)
+      ∙ ap shown (taken _ _ (ap isConnected x) ∙ passed-over _ _ (ap isEnding q) ∙ e)
     where
       is-good : isGood free ≡ true
       is-good = unfold isGood in refl
 
-  pub info-free-row : s .transfer .running ≡ TransferInfo → Ended (I.infoFreeCode s) (unread s) (load s) (step free s .state)
-  unfolding E.busFree unread
+  pub info-free-row : s .transfer .running ≡ TransferInfo → Ended (I.transferInfoFreeCode s) (bytesUnread s) (load s) (step free s .state)
+  unfolding E.freedRunning I.transferInfoFree E.busFree bytesUnread
   info-free-row t =
-      ended-by _ (free-reaches (ap (λ (r : Running). E.freedFrom r s) t ∙ open-event s _ q)) refl
+      ended-by _
+      (free-reaches (passed-over _ _ (ap isSelectAndTransfer t) ∙ taken _ _ (ap isTransferInfo t) ∙ open-event s _ q)) refl
 
-  pub transfer-freed : isTransfer (s .transfer .running) ≡ true → E.freedFrom (s .transfer .running) s ≡ X.transferFree s (E.busFree s)
-  transfer-freed e = by-running (s .transfer .running) e
-    where
-      by-running : (r : Running) → isTransfer r ≡ true → E.freedFrom r s ≡ X.transferFree s (E.busFree s)
-      by-running Idle e = clash e refl
-      by-running SelectWithAtn e = clash e refl
-      by-running SelectWithoutAtn e = clash e refl
-      by-running TransferWithAtn e = refl
-      by-running TransferWithoutAtn e = refl
-      by-running TransferInfo e = clash e refl
+  pub transfer-freed : isSelectAndTransfer (s .transfer .running) ≡ true → E.freedRunning s ≡ X.selectAndTransferFree s (E.busFree s)
+  unfolding E.freedRunning
+  transfer-freed e = taken _ _ e
 
-  pub cuts-transfer-row : isTransfer (s .transfer .running) ≡ true → eqb (s .registers .phase) 0x42 ≡ false
-      → Ended 0x41 (unread s) (load s) (step free s .state)
-  unfolding X.transferFree E.busFree unread
+  pub cuts-transfer-row : isSelectAndTransfer (s .transfer .running) ≡ true → eqb (s .registers .descriptor .phase) 0x42 ≡ false
+      → Ended 0x41 (bytesUnread s) (load s) (step free s .state)
+  unfolding X.selectAndTransferFree E.busFree bytesUnread
   cuts-transfer-row t e = ended-by _ (free-reaches (transfer-freed t ∙ passed-over _ _ e ∙ open-event s _ q)) refl
 
-  pub leaves-transfer-row : isTransfer (s .transfer .running) ≡ true → eqb (s .registers .phase) 0x42 ≡ true → idi s ≡ true
-      → Ended 0x85 (unread s) (load s) (step free s .state)
-  unfolding X.transferFree X.freeAfterDisconnect E.busFree unread
+  pub leaves-transfer-row : isSelectAndTransfer (s .transfer .running) ≡ true → eqb (s .registers .descriptor .phase) 0x42 ≡ true → idi s ≡ true
+      → Ended 0x85 (bytesUnread s) (load s) (step free s .state)
+  unfolding X.selectAndTransferFree X.freeAfterDisconnect E.busFree bytesUnread
   leaves-transfer-row t e d =
       ended-by _ (free-reaches (transfer-freed t ∙ taken _ _ e ∙ taken _ _ d ∙ open-event s _ q)) refl
 
-  pub read-out-row : isTransfer (s .transfer .running) ≡ true → eqb (s .registers .phase) 0x42 ≡ true → idi s ≡ false → unread s ≡ true
+  pub read-out-row : isSelectAndTransfer (s .transfer .running) ≡ true → eqb (s .registers .descriptor .phase) 0x42 ≡ true → idi s ≡ false → bytesUnread s ≡ true
       → (step free s .state .status .pending ≡ ReadOut) × (load (step free s .state) ≡ load s)
-  unfolding X.transferFree X.freeAfterDisconnect X.freeToWait E.busFree
+  unfolding X.selectAndTransferFree X.freeAfterDisconnect X.freeToWait E.busFree
   read-out-row t e d u =
       let h = free-reaches (transfer-freed t ∙ taken _ _ e ∙ passed-over _ _ d ∙ taken _ _ u ∙ open-event s _ q) in
       (ap (λ (x : Seen). x .pending) h, ap loadSeen h)
 
   pub idle-free-row : isIdle (s .transfer .running) ≡ true → Raised 0x85 (step free s .state)
-  unfolding E.idleFree
-  idle-free-row e = raised-by _ (free-reaches (by-running (s .transfer .running) e ∙ open-event s _ q))
-    where
-      by-running : (r : Running) → isIdle r ≡ true → E.freedFrom r s ≡ E.idleFree s
-      by-running Idle e = refl
-      by-running SelectWithAtn e = refl
-      by-running SelectWithoutAtn e = refl
-      by-running TransferWithAtn e = clash e refl
-      by-running TransferWithoutAtn e = clash e refl
-      by-running TransferInfo e = clash e refl
+  unfolding E.freedRunning E.idleFree
+  idle-free-row e =
+      raised-by _
+      (free-reaches (passed-over _ _ (idle-transfers (s .transfer .running) e) ∙ passed-over _ _ (idle-informs (s .transfer .running) e) ∙ open-event s _ q))

@@ -8,8 +8,8 @@ use mathlib.Core.Bool.{true, false}
 use mathlib.Core.Logic.{_⊎_, inl, inr, ⊎-elim}
 use Prim.Native.Nat.{ℕ}
 use Rattle.chip.specs.Choice.{pick}
-use Rattle.chip.specs.Interrupts.{interrupted, isInterrupt, isEnding, withoutInterrupt, unread}
-use Rattle.chip.specs.TransferInfo.{infoFreeCode}
+use Rattle.chip.specs.Interrupts.{interrupted, isInterrupt, isEnding, withoutInterrupt, bytesUnread}
+use Rattle.chip.specs.TransferInfo.{transferInfoFreeCode}
 use Rattle.chip.specs.Calls.{Call, step}
 use Rattle.chip.specs.declared.State.{State}
 use Rattle.chip.specs.declared.Pending.{Pending}
@@ -19,7 +19,7 @@ use Rattle.unread.specs.Because as B
 use Rattle.unread.specs.Because.{Quiet, Brings, Begins, BeginsReadOut, ReadsLast, ReadsOut, Because, RaisedBecause, EndingBecause}
 use Rattle.chip.proofs.Cases.{by-test}
 use Rattle.unread.proofs.Choosing.{clash}
-use Rattle.unread.proofs.Telling.{disconnects, reads-out, has-read, settles-plain, plain-int, cleared-int, Standing, Tells, isPlain, silent, moves, selects, settles, begins, raises, reads, resets}
+use Rattle.unread.proofs.Telling.{disconnects, reads-out, has-read, settles-plain, plain-int, cleared-int, Summary, Tells, isPlain, silent, moves, selects, settles, begins, raises, reads, resets}
 use Rattle.unread.proofs.Told.{told, reset-told}
 use Rattle.unread.proofs.Unread.{raised-from-quiet, raised-sets-int, raised-anew, raised-reset}
 use Rattle.unread.proofs.Asked as A
@@ -28,8 +28,8 @@ use Rattle.unread.proofs.Rows as W
 
 -- complete
 
-pub brings-row : {c : Call} {s : State} {k : ℕ} → Brings c s k → Ended k (unread s) (load s) (step c s .state)
-unfolding infoFreeCode pick
+pub brings-row : {c : Call} {s : State} {k : ℕ} → Brings c s k → Ended k (bytesUnread s) (load s) (step c s .state)
+unfolding transferInfoFreeCode pick
 brings-row (B.completes {n} {b} {m} {s} o t g e h) = A.completes-row n b m s o t g e h
 brings-row (B.overruns {n} {b} {m} {p} {s} o r e) = A.overruns-row n b m s o r e
 brings-row (B.saves {n} {b} {m} {s} o t g e h) = A.saves-row n b m s o t g e h
@@ -109,7 +109,7 @@ because-raised (resetting e) = inl e
 
 -- sound
 
-reasoned : {c : Call} {s : State} {z : Standing} → Tells c s z → isReset c s ≡ false → interrupted s ≡ false
+reasoned : {c : Call} {s : State} {z : Summary} → Tells c s z → isReset c s ≡ false → interrupted s ≡ false
     → isInterrupt (z .pending) ≡ true → Because c s (z .code)
 reasoned (silent a) r i j = clash j i
 reasoned (moves x) r i j = clash j i
@@ -120,7 +120,7 @@ reasoned (raises i h x) r i' j = h
 reasoned {s = s} (reads e a) r i j = clash j (cleared-int (s .status .pending))
 reasoned (resets e x) r i j = clash e r
 
-begun : {c : Call} {s : State} {z : Standing} (j : ℕ) → Tells c s z → z .pending ≡ Ending j → (s .status .pending ≡ Ending j) ⊎ Begins c s j
+begun : {c : Call} {s : State} {z : Summary} (j : ℕ) → Tells c s z → z .pending ≡ Ending j → (s .status .pending ≡ Ending j) ⊎ Begins c s j
 begun j (silent a) e = inl e
 begun j (moves x) e = inl e
 begun j (selects f q x b n) e = inl e
@@ -139,7 +139,7 @@ begun {s = s} j (reads d a) e = inl (ended-before (s .status .pending) e)
     ended-before ReadOut e = e
 begun j (resets d x) e = clash refl (ap isInterrupt e)
 
-read-out-begun : {c : Call} {s : State} {z : Standing} → Tells c s z → z .pending ≡ ReadOut
+read-out-begun : {c : Call} {s : State} {z : Summary} → Tells c s z → z .pending ≡ ReadOut
     → (s .status .pending ≡ ReadOut) ⊎ BeginsReadOut c s
 read-out-begun (silent a) e = inl e
 read-out-begun (moves x) e = inl e

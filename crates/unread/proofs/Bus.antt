@@ -3,35 +3,32 @@
 --   info-wants info-spent   what a running Transfer Info wants, and when it is spent
 --   by-stage                what a running Select-And-Transfer wants
 --   remembered-keeps        to keep the last phase in mind changes nothing else
---   pushed                  a FIFO that took a byte is not empty
 use mathlib.Core.Path.{_≡_, refl, ap}
 use mathlib.Core.Bool.{true, false, not}
-use Prim.Native.Nat.{ℕ, _+_}
-use native.Mathlib.Omega.{arith}
+use Prim.Native.Nat.{ℕ}
 use lib.Dec.{eqb}
-use borrow.Author.Tests.{ne-eqb}
 use Rattle.chip.specs.Choice.{pick, both, either}
 use Rattle.chip.specs.Phases.{phaseOf, comesIn, samePhase, isNoted, isMessageIn}
 use Rattle.chip.specs.Lines.{qualifies}
-use Rattle.chip.specs.Fifo.{isEmpty, hasRoom, push}
+use Rattle.chip.specs.Fifo.{hasRoom}
 use Rattle.chip.specs.Count.{noneLeft, isLast, lowered}
 use Rattle.chip.specs.State.{setLast}
-use Rattle.chip.specs.Interrupts.{interrupted, ends, isEnding, raise, outgoingDropped, unread}
+use Rattle.chip.specs.Answers.{outOfPlace}
+use Rattle.chip.proofs.Numbers.{is-selecting, is-connected, is-transfer-info}
+use Rattle.chip.specs.Interrupts.{interrupted, inEnding, isEnding, raise, outgoingDropped, bytesUnread}
 use Rattle.chip.specs.TransferInfo as I
 use Rattle.chip.specs.SelectAndTransfer as X
-use Rattle.chip.specs.Commands.{isConnected, isWaiting}
+use Rattle.chip.specs.Connections.{isConnected, isWaiting, isSelecting}
 use Rattle.chip.specs.Events as E
-use Rattle.chip.specs.Events.{isTransfer}
+use Rattle.chip.specs.Running.{isSelectAndTransfer}
 use Rattle.chip.specs.Calls.{time, answer, reselection, request, free, isGood, isSet}
 use Rattle.chip.specs.declared.State.{State}
 use Rattle.chip.specs.declared.Reply.{Reply}
-use Rattle.chip.specs.declared.Fifo.{Fifo}
 use Rattle.chip.specs.declared.Answer.{Answer}
 use Rattle.chip.specs.declared.Answer.the-variants.{Done, Held, OutOfPlace, BadNumber, Blind, CommandIgnored, ReselectionIgnored, NoDataNow, Reported}
-use Rattle.chip.specs.declared.Connection.{Connection}
-use Rattle.chip.specs.declared.Connection.the-variants.{Disconnected, Selecting, Waiting, Connected}
+use Rattle.chip.specs.declared.Connection.the-variants.{Connected}
 use Rattle.chip.specs.declared.Running.{Running}
-use Rattle.chip.specs.declared.Running.the-variants.{Idle, SelectWithAtn, SelectWithoutAtn, TransferWithAtn, TransferWithoutAtn, TransferInfo}
+use Rattle.chip.specs.declared.Running.the-variants.{Idle, SelectWithAtn, SelectWithoutAtn, SelectAndTransferWithAtn, SelectAndTransferWithoutAtn, TransferInfo}
 use Rattle.chip.specs.declared.Stage.{Stage}
 use Rattle.chip.specs.declared.Stage.the-variants.{SendIdentify, SendCommand, Body, AfterData, Disconnecting, Reselected, AfterStatus, Elsewhere}
 use Rattle.chip.specs.declared.Direction.{Direction}
@@ -40,61 +37,55 @@ use Rattle.chip.specs.declared.Noted.{Noted}
 use Rattle.chip.specs.declared.Phase.{Phase}
 use Rattle.chip.specs.declared.Phase.the-variants.{DataOut, DataIn, CommandOut, StatusIn, UnspecifiedOut, UnspecifiedIn, MessageOut, MessageIn}
 use Rattle.unread.specs.Because as B
-use Rattle.unread.specs.Because.{Quiet, Brings, Offered, LastMessage, isIdle, isSpent, stage, expects, expectsBody, expectsLate, wants, fits, halts, isBeforeStatus}
+use Rattle.unread.specs.Because.{Quiet, Brings, Offered, LastMessage, isIdle, isSpent, expects, expectsBody, expectsLate, wants, fits, halts, isBeforeStatus}
+use Rattle.chip.specs.SelectAndTransfer.{stage}
 use Rattle.chip.proofs.Cases.{by-pick, by-case, by-test, both-first, both-second}
 use Rattle.unread.proofs.Choosing.{clash, not-first}
-use Rattle.unread.proofs.Telling.{standing, isSelecting, Tells, so, ToldReply, reads-out, silent, moves, settles, raises, gone, unless-int, ended, brought, quiet-of}
+use Rattle.unread.proofs.Telling.{summary, Tells, so, ToldReply, reads-out, silent, moves, settles, raises, gone, unless-int, ended, brought, quiet-of}
+use Rattle.chip.proofs.FifoLaws.{push-some}
 
 -- Time, Answer, Reselection
 
 pub passed-tells : (n : ℕ) (s : State) → isGood (time n) ≡ true → ToldReply (time n) s (E.passed n s)
 unfolding E.passed E.selectionTime E.timedOut raise outgoingDropped
-passed-tells n s good = by-case Says _ (λ e. so (silent (λ q. refl))) (λ e. by-connection e (s .wire .connection) refl)
+passed-tells n s good =
+    by-case Says _ (λ e. so (silent (λ q. refl)))
+    (λ e. by-case Says _
+    (λ x. by-case Says _ (λ i. so (silent (λ q. refl)))
+    (λ i. by-case Says _ (λ t. so (silent (λ q. refl)))
+    (λ t. by-case Says _ (λ u. so (raises i (B.times-out good (quiet-of _ i e) (is-selecting _ x) t u) (gone refl)))
+    (λ u. so (silent (λ q. refl))))))
+    (λ x. so (silent (λ q. refl))))
   where
     Says : Reply → Type 0
     Says r = ToldReply (time n) s r
 
-    by-connection : ends s ≡ false → (x : Connection) → s .wire .connection ≡ x → Says (E.passedBy x n s)
-    by-connection e Disconnected f = so (silent (λ q. refl))
-    by-connection e Selecting f =
-        by-case Says _ (λ i. so (silent (λ q. refl)))
-        (λ i. by-case Says _ (λ t. so (silent (λ q. refl)))
-        (λ t. by-case Says _ (λ u. so (raises i (B.times-out good (quiet-of _ i e) f t u) (gone refl))) (λ u. so (silent (λ q. refl)))))
-    by-connection e Waiting f = so (silent (λ q. refl))
-    by-connection e Connected f = so (silent (λ q. refl))
-
 pub answered-tells : (s : State) → ToldReply answer s (E.answered s)
 unfolding E.answered E.answeredSelecting E.answeredState E.connected raise outgoingDropped
-answered-tells s = by-connection (s .wire .connection) refl
+answered-tells s =
+    by-case Says _
+    (λ x. by-case Says _ (λ e. so (silent (λ q. clash e (ap isEnding q))))
+    (λ e. by-case Says _ (λ t. so (moves refl))
+    (λ t. unless-int _ (λ i. so (raises i (B.answers (quiet-of _ i e) (is-selecting _ x) t) (gone refl))))))
+    (λ x. so (moves x))
   where
     Says : Reply → Type 0
     Says r = ToldReply answer s r
 
-    by-connection : (x : Connection) → s .wire .connection ≡ x → Says (E.answeredBy x s)
-    by-connection Disconnected f = so (moves (ap isSelecting f))
-    by-connection Selecting f =
-        by-case Says _ (λ e. so (silent (λ q. clash e (ap isEnding q))))
-        (λ e. by-case Says _ (λ t. so (moves refl)) (λ t. unless-int _ (λ i. so (raises i (B.answers (quiet-of _ i e) f t) (gone refl)))))
-    by-connection Waiting f = so (moves (ap isSelecting f))
-    by-connection Connected f = so (moves (ap isSelecting f))
-
 pub reselected-tells : (lines : ℕ) (s : State) → isGood (reselection lines) ≡ true → ToldReply (reselection lines) s (E.reselected lines s)
-unfolding E.reselected E.reselectedLoud E.reselectedWaiting E.reselectedState E.connected raise outgoingDropped both
-reselected-tells lines s good = by-case Says _ (λ q. by-connection q (s .wire .connection) refl) (λ q. so (silent (λ q. refl)))
+unfolding E.reselected E.reselectedWithCode E.reselectedApart E.reselectedState E.connected raise outgoingDropped
+reselected-tells lines s good =
+    by-case Says _
+    (λ q. by-case Says _ (λ x. so (silent (λ q. refl)))
+    (λ x. by-case Says _ (λ e. so (silent (λ q. refl))) (λ e. by-case Says _ (λ w. so (moves refl)) (λ w. with-code e q x w))))
+    (λ q. so (silent (λ q. refl)))
   where
     Says : Reply → Type 0
     Says r = ToldReply (reselection lines) s r
 
-    loud : ends s ≡ false → qualifies lines s ≡ true → isConnected (s .wire .connection) ≡ false
-        → both (isWaiting (s .wire .connection)) (E.namesTarget lines s) ≡ false → Says (E.reselectedLoud lines s)
-    loud e q x w = unless-int _ (λ i. so (raises i (B.reselects good (quiet-of _ i e) q x w) (gone refl)))
-
-    by-connection : qualifies lines s ≡ true → (x : Connection) → s .wire .connection ≡ x → Says (E.reselectedBy x lines s)
-    by-connection q Disconnected f = by-case Says _ (λ e. so (silent (λ q. refl))) (λ e. loud e q (rw f) (rw f))
-    by-connection q Selecting f = by-case Says _ (λ e. so (silent (λ q. refl))) (λ e. loud e q (rw f) (rw f))
-    by-connection q Waiting f =
-        by-case Says _ (λ e. so (silent (λ q. refl))) (λ e. by-case Says _ (λ t. so (moves refl)) (λ t. loud e q (rw f) (rw (t, f))))
-    by-connection q Connected f = so (silent (λ q. refl))
+    with-code : inEnding s ≡ false → qualifies lines s ≡ true → isConnected (s .wire .connection) ≡ false
+        → both (isWaiting (s .wire .connection)) (E.namesTarget lines s) ≡ false → Says (E.reselectedWithCode lines s)
+    with-code e q x w = unless-int _ (λ i. so (raises i (B.reselects good (quiet-of _ i e) q x w) (gone refl)))
 
 -- Requests
 
@@ -107,10 +98,6 @@ is-message-in UnspecifiedOut e = clash e refl
 is-message-in UnspecifiedIn e = clash e refl
 is-message-in MessageOut e = clash e refl
 is-message-in MessageIn e = refl
-
-pub pushed : (b : ℕ) (q : Fifo) → hasRoom q ≡ true → isEmpty (push b q) ≡ false
-unfolding push pick isEmpty
-pushed b q r = rw r (ne-eqb (q .held + 1) 0 (λ e. omega arith))
 
 -- to keep the phase of the last Request in mind changes nothing else
 pub remembered-keeps : {A : Type 0} (g : State → A) → ((x : Noted) (t : State) → g (setLast x t) ≡ g t) → (p : Phase) (r : Reply)
@@ -132,7 +119,7 @@ remembered-keeps g k p r = by-answer (r .answer)
 -- what a running command wants
 
 pub info-wants : (p : Phase) (b : ℕ) (s : State) → s .transfer .running ≡ TransferInfo
-    → wants p b s ≡ both (isNoted p (s .wire .reported)) (not (noneLeft s))
+    → wants p b s ≡ both (isNoted p (s .wire .seen .reported)) (not (noneLeft s))
 unfolding wants pick
 info-wants p b s runs = rw runs
 
@@ -140,7 +127,7 @@ pub info-spent : (s : State) → s .transfer .running ≡ TransferInfo → isSpe
 unfolding isSpent both
 info-spent s runs = rw runs
 
-pub by-stage : (p : Phase) (b : ℕ) (s : State) (g : Stage) → isTransfer (s .transfer .running) ≡ true → stage s ≡ g
+pub by-stage : (p : Phase) (b : ℕ) (s : State) (g : Stage) → isSelectAndTransfer (s .transfer .running) ≡ true → stage s ≡ g
     → wants p b s ≡ expects g p b s
 unfolding wants pick
 by-stage p b s g runs at = rw (runs, at)
@@ -149,7 +136,7 @@ module _ (n b m : ℕ) (s : State) (z : isSelecting (s .wire .connection) ≡ fa
   abbrev Says : Reply → Type 0
   Says r = ToldReply (request n b m) s r
 
-  still : Tells (request n b m) s (standing s)
+  still : Tells (request n b m) s (summary s)
   still = silent (λ q. refl)
 
   abbrev Comes : Phase → Type 0
@@ -158,12 +145,12 @@ module _ (n b m : ℕ) (s : State) (z : isSelecting (s .wire .connection) ≡ fa
   -- to a running command
   module _ (runs : isIdle (s .transfer .running) ≡ false) where
     unexpected-tells : (p : Phase) → Comes p → wants p b s ≡ false → isSpent s ≡ false → Says (X.unexpected p s)
-    unfolding X.unexpected unread
+    unfolding X.unexpected bytesUnread
     unexpected-tells p o w f = unless-int _ (λ i. brought _ refl z refl (o i .quiet) (B.surprises (o i) runs w f))
 
     unless-halted : (p : Phase) (r : Reply) → Comes p → wants p b s ≡ true → comesIn p ≡ true → fits p s ≡ true
         → (halts m s ≡ false → Says r) → Says (I.unlessHalted (isSet m) s r)
-    unfolding I.unlessHalted I.halted halts unread
+    unfolding I.unlessHalted I.halted halts bytesUnread
     unless-halted p r o w c f k =
         by-case Says _ (λ h. unless-int _ (λ i. brought _ refl z refl (o i .quiet) (B.spoils (o i) runs w c f h))) k
 
@@ -173,29 +160,29 @@ module _ (n b m : ℕ) (s : State) (z : isSelecting (s .wire .connection) ≡ fa
     unfolding fits both either
     info-fits p h = rw (runs, h)
 
-    over-brings : (p : Phase) → Offered n b m p s → both (isNoted p (s .wire .reported)) (not (noneLeft s)) ≡ false
+    over-brings : (p : Phase) → Offered n b m p s → both (isNoted p (s .wire .seen .reported)) (not (noneLeft s)) ≡ false
         → Brings (request n b m) s (I.overCode p s)
     unfolding I.overCode pick
     over-brings p o w =
         by-test (noneLeft s) (λ e. rw e (B.overruns o (rw runs) (rw (info-spent s runs, e))))
         (λ e. rw e (B.surprises o (rw runs) (rw (info-wants p b s runs, w)) (rw (info-spent s runs, e))))
 
-    over-tells : (p : Phase) → Comes p → both (isNoted p (s .wire .reported)) (not (noneLeft s)) ≡ false → Says (I.infoOver p s)
-    unfolding I.infoOver unread
+    over-tells : (p : Phase) → Comes p → both (isNoted p (s .wire .seen .reported)) (not (noneLeft s)) ≡ false → Says (I.transferInfoOver p s)
+    unfolding I.transferInfoOver bytesUnread
     over-tells p o w = unless-int _ (λ i. brought _ refl z refl (o i .quiet) (over-brings p (o i) w))
 
-    info-out-tells : (p : Phase) → Says (I.infoOut p s)
-    unfolding I.infoOut lowered
+    info-out-tells : (p : Phase) → Says (I.transferInfoSent p s)
+    unfolding I.transferInfoSent lowered
     info-out-tells p = by-pick Says _ (so still) (so still)
 
     taken-tells : (p : Phase) → Comes p → wants p b s ≡ true → hasRoom (s .fifo) ≡ true → halts m s ≡ false
-        → Says (I.infoTaken p b (isSet m) s)
-    unfolding I.infoTaken I.takenIn lowered I.parityNoted unread
+        → Says (I.transferInfoTaken p b (isSet m) s)
+    unfolding I.transferInfoTaken I.takenIn lowered I.parityNoted bytesUnread
     taken-tells p o w r h =
         by-case Says _
         (λ l. unless-int _
         (λ i. ended _ refl z (o i .quiet) (λ u. B.keeps-last (last-message l i) (both-first _ _ u))
-        (λ u. B.takes-last (last-message l i) (not-first _ _ u (rw (pushed b (s .fifo) r))))))
+        (λ u. B.takes-last (last-message l i) (not-first _ _ u (rw (push-some b (s .fifo) r))))))
         (λ l. so still)
       where
         last-message : both (isMessageIn p) (isLast s) ≡ true → interrupted s ≡ false → LastMessage n b m s
@@ -203,8 +190,8 @@ module _ (n b m : ℕ) (s : State) (z : isSelecting (s .wire .connection) ≡ fa
             let e : p ≡ MessageIn = is-message-in p (both-first _ _ l) in
             record { offered = rw e at (o i); runs = runs; wanted = rw e at w; last = both-second (isMessageIn p) _ l; room = r; sound = h }
 
-    info-tells : (p : Phase) → Comes p → Says (I.infoRequest p b (isSet m) s)
-    unfolding I.infoRequest I.infoIn
+    info-tells : (p : Phase) → Comes p → Says (I.transferInfoRequest p b (isSet m) s)
+    unfolding I.transferInfoRequest I.transferInfoOffered
     info-tells p o =
         by-case Says _
         (λ w. by-case Says _
@@ -215,17 +202,9 @@ module _ (n b m : ℕ) (s : State) (z : isSelecting (s .wire .connection) ≡ fa
         (over-tells p o)
 
   -- to a Select-And-Transfer, at the stage g
-  module _ (runs : isTransfer (s .transfer .running) ≡ true) (g : Stage) (at : stage s ≡ g) where
+  module _ (runs : isSelectAndTransfer (s .transfer .running) ≡ true) (g : Stage) (at : stage s ≡ g) where
     combines : isIdle (s .transfer .running) ≡ false
-    combines = not-idle (s .transfer .running) runs
-      where
-        not-idle : (r : Running) → isTransfer r ≡ true → isIdle r ≡ false
-        not-idle Idle e = clash e refl
-        not-idle SelectWithAtn e = clash e refl
-        not-idle SelectWithoutAtn e = clash e refl
-        not-idle TransferWithAtn e = refl
-        not-idle TransferWithoutAtn e = refl
-        not-idle TransferInfo e = refl
+    combines = rw runs
 
     surprised : (p : Phase) → Comes p → expects g p b s ≡ false → Says (X.unexpected p s)
     unfolding isSpent both
@@ -246,7 +225,7 @@ module _ (n b m : ℕ) (s : State) (z : isSelecting (s .wire .connection) ≡ fa
 
     message-tells : Comes MessageIn → isBeforeStatus g ≡ true → expects g MessageIn b s ≡ either (eqb b 0x02) (eqb b 0x04)
         → Says (X.takeMessage b (isSet m) s)
-    unfolding X.takeMessage X.takeSave X.takeDisconnect I.parityNoted unread either
+    unfolding X.takeMessage X.takeSave X.takeDisconnect I.parityNoted bytesUnread either
     message-tells o early e =
         by-case Says _
         (λ x. taken-unless MessageIn _ o (rw (e, x)) refl (no-room MessageIn refl)
@@ -254,7 +233,7 @@ module _ (n b m : ℕ) (s : State) (z : isSelecting (s .wire .connection) ≡ fa
         (λ x. by-case Says _ (λ y. taken-unless MessageIn _ o (rw (e, x, y)) refl (no-room MessageIn refl) (λ h. so still))
         (λ y. surprised MessageIn o (rw (e, x, y))))
 
-  module _ (runs : isTransfer (s .transfer .running) ≡ true) where
+  module _ (runs : isSelectAndTransfer (s .transfer .running) ≡ true) where
     send-tells : Says (X.sendData s)
     unfolding X.sendData lowered
     send-tells = by-pick Says _ (so still) (so still)
@@ -310,7 +289,7 @@ module _ (n b m : ℕ) (s : State) (z : isSelecting (s .wire .connection) ≡ fa
         B.completes (rw (is-message-in p (both-first _ _ e)) at o) runs at (both-second (isMessageIn p) _ e) h
 
     at-stage : (g : Stage) → stage s ≡ g → (p : Phase) → Comes p → Says (X.requestAt g p b (isSet m) s)
-    unfolding X.requestAt X.sendIdentify X.sendCommand X.takeIdentify X.takeComplete X.completed I.parityNoted unread expects
+    unfolding X.requestAt X.sendIdentify X.sendCommand X.takeIdentify X.takeComplete X.completed I.parityNoted bytesUnread expects
     at-stage SendIdentify at p o = by-case Says _ (λ e. so still) (surprised runs SendIdentify at p o)
     at-stage (SendCommand x) at p o = by-case Says _ (λ e. so still) (surprised runs (SendCommand x) at p o)
     at-stage Body at p o = body-tells at p o
@@ -330,34 +309,31 @@ module _ (n b m : ℕ) (s : State) (z : isSelecting (s .wire .connection) ≡ fa
   idle-tells r p o =
       by-case Says _ (λ e. so still) (λ e. unless-int _ (λ i. so (raises i (B.asks (o i) r e) (gone z))))
 
-  served-tells : (p : Phase) → Comes p → (r : Running) → s .transfer .running ≡ r → Says (E.servedBy r p b (isSet m) s)
-  unfolding X.transferRequest stage
-  served-tells p o Idle r = idle-tells (rw r) p o
-  served-tells p o SelectWithAtn r = idle-tells (rw r) p o
-  served-tells p o SelectWithoutAtn r = idle-tells (rw r) p o
-  served-tells p o TransferWithAtn r = at-stage (rw r) _ (rw r) p o
-  served-tells p o TransferWithoutAtn r = at-stage (rw r) _ (rw r) p o
-  served-tells p o TransferInfo r = info-tells r p o
+  running-tells : (p : Phase) → Comes p → Says (E.requestedRunning p b (isSet m) s)
+  unfolding E.requestedRunning X.selectAndTransferRequest
+  running-tells p o =
+      by-case Says _ (λ t. at-stage t _ refl p o)
+      (λ t. by-case Says _ (λ i. info-tells (is-transfer-info _ i) p o) (λ i. idle-tells (rw (t, i)) p o))
 
   connected-tells : isGood (request n b m) ≡ true → s .wire .connection ≡ Connected → Says (E.requestedConnected (phaseOf n) b (isSet m) s)
   unfolding E.requestedConnected
   connected-tells good x =
       by-case Says _ (λ e. so still)
       (λ e. by-case Says _ (λ a. so still)
-      (λ a. served-tells (phaseOf n)
-      (λ i. record { good = good; phase = refl; quiet = quiet-of _ i e; connected = x; released = a }) _ refl))
+      (λ a. running-tells (phaseOf n)
+      (λ i. record { good = good; phase = refl; quiet = quiet-of _ i e; connected = x; released = a })))
 
 pub requested-tells : (n b m : ℕ) (s : State) → isGood (request n b m) ≡ true
     → ToldReply (request n b m) s (E.requested (phaseOf n) b (isSet m) s)
 unfolding E.requested
 requested-tells n b m s good =
-    so (rw (remembered-keeps standing (λ x t. refl) (phaseOf n) _) (by-connection (s .wire .connection) refl .tells))
+    so (rw (remembered-keeps summary (λ x t. refl) (phaseOf n) _) (by-connection .tells))
   where
-    by-connection : (x : Connection) → s .wire .connection ≡ x → ToldReply (request n b m) s (E.requestedBy x (phaseOf n) b (isSet m) s)
-    by-connection Disconnected x = so (silent (λ q. refl))
-    by-connection Selecting x = so (silent (λ q. refl))
-    by-connection Waiting x = so (silent (λ q. refl))
-    by-connection Connected x = connected-tells n b m s (ap isSelecting x) good x
+    by-connection : ToldReply (request n b m) s
+        (pick (isConnected (s .wire .connection)) (E.requestedConnected (phaseOf n) b (isSet m) s) (outOfPlace s))
+    by-connection =
+        by-case (ToldReply (request n b m) s) _
+        (λ x. let c = is-connected (s .wire .connection) x in connected-tells n b m s (ap isSelecting c) good c) (λ x. so (silent (λ q. refl)))
 
 -- Free
 
@@ -370,36 +346,32 @@ module _ (s : State) where
     unfolding E.idleFree E.busFree raise outgoingDropped
     idle-free-tells r = unless-int _ (λ i. so (raises i (B.frees (q i) x r) (gone refl)))
 
-    info-free-brings : s .transfer .running ≡ TransferInfo → Quiet s → Brings free s (I.infoFreeCode s)
-    unfolding I.infoFreeCode pick
+    info-free-brings : s .transfer .running ≡ TransferInfo → Quiet s → Brings free s (I.transferInfoFreeCode s)
+    unfolding I.transferInfoFreeCode pick
     info-free-brings r u = by-test (noneLeft s) (λ e. rw e (B.leaves-info u x r e)) (λ e. rw e (B.cuts-info u x r e))
 
-    info-free-tells : s .transfer .running ≡ TransferInfo → Leaves (E.freedFrom TransferInfo s)
-    unfolding E.busFree unread
+    info-free-tells : s .transfer .running ≡ TransferInfo
+        → Leaves (I.transferInfoFree s (E.busFree s))
+    unfolding I.transferInfoFree E.busFree bytesUnread
     info-free-tells r = unless-int _ (λ i. brought _ refl refl refl (q i) (info-free-brings r (q i)))
 
-    transfer-free-tells : isTransfer (s .transfer .running) ≡ true → Leaves (X.transferFree s (E.busFree s))
-    unfolding X.transferFree X.freeAfterDisconnect X.freeToWait E.busFree unread
+    transfer-free-tells : isSelectAndTransfer (s .transfer .running) ≡ true → Leaves (X.selectAndTransferFree s (E.busFree s))
+    unfolding X.selectAndTransferFree X.freeAfterDisconnect X.freeToWait E.busFree bytesUnread
     transfer-free-tells r =
         by-case Leaves _
         (λ e. by-case Leaves _ (λ d. unless-int _ (λ i. brought _ refl refl refl (q i) (B.leaves-transfer (q i) x r e d)))
         (λ d. by-case Leaves _ (λ u. unless-int _ (λ i. so (settles (reads-out (B.leaves-unread (q i) x r e d u))))) (λ u. so (moves refl))))
         (λ e. unless-int _ (λ i. brought _ refl refl refl (q i) (B.cuts-transfer (q i) x r e)))
 
-    freed-from : (r : Running) → s .transfer .running ≡ r → Leaves (E.freedFrom r s)
-    freed-from Idle r = idle-free-tells (rw r)
-    freed-from SelectWithAtn r = idle-free-tells (rw r)
-    freed-from SelectWithoutAtn r = idle-free-tells (rw r)
-    freed-from TransferWithAtn r = transfer-free-tells (rw r)
-    freed-from TransferWithoutAtn r = transfer-free-tells (rw r)
-    freed-from TransferInfo r = info-free-tells r
+    running-free-tells : Leaves (E.freedRunning s)
+    unfolding E.freedRunning
+    running-free-tells =
+        by-case Leaves _ transfer-free-tells
+        (λ t. by-case Leaves _ (λ i. info-free-tells (is-transfer-info _ i)) (λ i. idle-free-tells (rw (t, i))))
 
   pub freed-tells : Leaves (E.freed s)
   unfolding E.freed
-  freed-tells = by-connection (s .wire .connection) refl
-    where
-      by-connection : (x : Connection) → s .wire .connection ≡ x → Leaves (E.freedBy x s)
-      by-connection Disconnected x = so (silent (λ q. refl))
-      by-connection Selecting x = so (silent (λ q. refl))
-      by-connection Waiting x = so (silent (λ q. refl))
-      by-connection Connected x = by-case Leaves _ (λ e. so (silent (λ q. refl))) (λ e. freed-from (λ i. quiet-of _ i e) x _ refl)
+  freed-tells =
+      by-case Leaves _
+      (λ x. by-case Leaves _ (λ e. so (silent (λ q. refl))) (λ e. running-free-tells (λ i. quiet-of _ i e) (is-connected _ x)))
+      (λ x. so (silent (λ q. refl)))

@@ -19,7 +19,7 @@ use Rattle.chip.specs.Choice.{pick, both, either}
 use Rattle.chip.specs.State.{setFifo}
 use Rattle.chip.specs.Fifo.{isEmpty, front, pop, waits}
 use Rattle.chip.specs.Answers.{noDataNow}
-use Rattle.chip.specs.Interrupts.{interrupted, ends, busy, isIncoming, isOutgoing, unread, raise, outgoingDropped, withoutOutgoing, settled, settledBy}
+use Rattle.chip.specs.Interrupts.{interrupted, inEnding, busy, isIncoming, isOutgoing, bytesUnread, raise, outgoingDropped, withoutOutgoing, settled, settledBy}
 use Rattle.chip.specs.Commands.{reset, disconnected, accepted, commanded}
 use Rattle.chip.specs.Registers as R
 use Rattle.chip.specs.Calls.{Call, pointer, auxiliary, register, block, time, answer, reselection, request, free, isGood, isSet, carried, step}
@@ -37,8 +37,9 @@ use Rattle.unread.specs.Because.{ReadsLast, BeginsReadOut}
 use Rattle.unread.specs.Ending.{isEvent, isDataAccess, isDataRead, Waits, Dropped, ResetDropped, EndingStays}
 use Rattle.chip.proofs.Cases.{by-pick, by-case, by-test, both-first, both-second, either-first, either-rest}
 use Rattle.unread.proofs.Choosing.{clash, not-first}
-use Rattle.unread.proofs.Telling.{Standing, standing}
-use Rattle.unread.proofs.Host.{Pops, nothing-read, one-read, ending-read, wait-read, pops, going, written-keeps, block-keeps, some-wait, one-less}
+use Rattle.unread.proofs.Telling.{Summary, summary}
+use Rattle.unread.proofs.Host.{Pops, nothing-read, one-read, ending-read, wait-read, pops, going, written-keeps, block-keeps}
+use Rattle.chip.proofs.FifoLaws.{some-waits, pop-less}
 use Rattle.unread.proofs.Told.{told, good-step, access-step, Issued, issued, Reading, reading, disconnect-gives}
 use Rattle.unread.proofs.Asked as A
 use Rattle.unread.proofs.Asked.{Load, load}
@@ -79,7 +80,7 @@ Short l s = isIncoming (s .transfer .direction) ≡ true → 0 < waits (s .fifo)
 
 pops-short : (l : List ℕ) (x : ℕ) {s t : State} → Pops s t → Short (x ∷ l) s → Short l t
 pops-short l x nothing-read n d v u = n d v (omega arith)
-pops-short l x {s = s} (one-read d w) n d' v u = n d (some-wait (s .fifo) w) (omega (arith, one-less (s .fifo) w))
+pops-short l x {s = s} (one-read d w) n d' v u = n d (some-waits (s .fifo) w) (omega (arith, pop-less (s .fifo) w))
 pops-short l x (ending-read d w e) n d' v u = n d (omega arith) (omega arith)
 pops-short l x (wait-read d w e) n d' v u = n d (omega arith) (omega arith)
 
@@ -164,7 +165,7 @@ data-kept free s a r o = clash a refl
 
 -- every call that neither drops the ending nor reads its last byte
 
-module _ (c : Call) (s : State) (e : ends s ≡ true) (x : isDropped c s ≡ false) where
+module _ (c : Call) (s : State) (e : inEnding s ≡ true) (x : isDropped c s ≡ false) where
   no-reset : isReset c s ≡ false
   unfolding isDropped
   no-reset = either-first _ _ x
@@ -205,9 +206,9 @@ settled-bytes s d = by-pick (λ (t : State). t .fifo ≡ s .fifo) _ (by-pending 
     by-pending (Ending k) = by-way (s .transfer .direction) d
     by-pending ReadOut = refl
 
-reads-front : (c : Call) (s : State) → unread s ≡ true → readsAt 0x19 c s ≡ true
+reads-front : (c : Call) (s : State) → bytesUnread s ≡ true → readsAt 0x19 c s ≡ true
     → (step c s .answer ≡ Done (front (s .fifo))) × (step c s .state .fifo ≡ pop (s .fifo))
-unfolding unread R.stepped
+unfolding bytesUnread R.stepped
 reads-front c s u e =
     let h : Reading 0x19 c s = reading 0x19 c s e in
     let d : isIncoming (s .transfer .direction) ≡ true = both-first _ _ u in
@@ -220,9 +221,9 @@ waits-then : {c : Call} {s : State} → s .status .pending ≡ ReadOut → Reads
 unfolding settledBy
 waits-then {c} {s} p l =
     let h = last-stands l in
-    let z : standing (step c s .state) ≡ standing (settledBy ReadOut (setFifo (h .0) s)) =
-    h .1 ∙ ap (λ (q : Pending). standing (settledBy q (setFifo (h .0) s))) p in
-    (ap (λ (x : Standing). x .pending) z, ap (λ (x : Standing). x .connection) z)
+    let z : summary (step c s .state) ≡ summary (settledBy ReadOut (setFifo (h .0) s)) =
+    h .1 ∙ ap (λ (q : Pending). summary (settledBy q (setFifo (h .0) s))) p in
+    (ap (λ (x : Summary). x .pending) z, ap (λ (x : Summary). x .connection) z)
 
 -- the call that begins it
 

@@ -1,5 +1,4 @@
 -- Generic facts on tests and choices, of no chip.
---   taken passed-over   the choice, where its test is known
 --   clash       a test does not both hold and fail
 --   not-first   of two tests that do not both hold, the first fails where the second holds
 --   second-fails second-holds   they do not, where the second fails; where it holds, the first decides
@@ -12,15 +11,7 @@ use Prim.Native.Nat.{ℕ}
 use lib.Dec.{eqb}
 use borrow.Author.Tests.{eqb-true}
 use Rattle.chip.proofs.Cases.{by-test, either-second}
-use Rattle.chip.specs.Choice.{pick, both, either}
-
-pub taken : {A : Type 0} {t : Bool} (a b : A) → t ≡ true → pick t a b ≡ a
-unfolding pick
-taken a b e = rw e
-
-pub passed-over : {A : Type 0} {t : Bool} (a b : A) → t ≡ false → pick t a b ≡ b
-unfolding pick
-passed-over a b e = rw e
+use Rattle.chip.specs.Choice.{both, either}
 
 pub clash : {P : Type 0} {t : Bool} → t ≡ true → t ≡ false → P
 clash x y = absurd (true≢false (sym x ∙ y))

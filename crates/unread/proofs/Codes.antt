@@ -14,12 +14,15 @@ use mathlib.Core.List.{List, [], _∷_, _++_, append-assoc, append-nil}
 use mathlib.Core.Logic.{_⊎_, inl, inr, ⊎-elim}
 use Prim.Native.Nat.{ℕ, _+_, _-_}
 use lib.Dec.{eqb, leb}
+use Rattle.chip.proofs.Numbers.{is-selecting}
 use Rattle.chip.specs.Choice.{pick, both, either}
 use Rattle.chip.specs.State.{fresh}
 use Rattle.chip.specs.Phases.{phaseOf, phaseNumber}
-use Rattle.chip.specs.Interrupts.{interrupted, isInterrupt, busy, unread, isEnding, isRunning}
-use Rattle.chip.specs.Commands.{abortPhase}
-use Rattle.chip.specs.Calls.{Call, Outcome, time, answer, reselection, request, free, step}
+use Rattle.chip.specs.Interrupts.{interrupted, isInterrupt, busy, bytesUnread, isEnding}
+use Rattle.chip.specs.Running.{isRunning}
+use Rattle.chip.specs.Commands.{abortPhase, isResetCode, resetCode}
+use Rattle.chip.specs.Connections.{isSelecting}
+use Rattle.chip.specs.Calls.{Call, Outcome, time, answer, reselection, request, free, step, run}
 use Rattle.chip.specs.declared.State.{State}
 use Rattle.chip.specs.declared.Phase.{Phase}
 use Rattle.chip.specs.declared.Phase.the-variants.{DataOut, DataIn, CommandOut, StatusIn, UnspecifiedOut, UnspecifiedIn, MessageOut, MessageIn}
@@ -27,16 +30,16 @@ use Rattle.chip.specs.declared.Pending.the-variants.{Nothing, Ending}
 use Rattle.chip.specs.declared.Connection.{Connection}
 use Rattle.chip.specs.declared.Connection.the-variants.{Disconnected, Selecting, Waiting, Connected}
 use Rattle.unread.specs.Status.{isCommand, isReset, isSelection, isAnswer}
-use Rattle.unread.specs.History.{run}
 use Rattle.unread.specs.Because as B
 use Rattle.unread.specs.Because.{Brings, Begins, ReadsOut, Because, isIdle}
 use Rattle.unread.specs.Codes as C
 use Rattle.unread.specs.Codes.{Raises, Since, Selects, EndingsBegun, Unanswered, SelectionsBegun, CodesOnlyBy}
 use Rattle.unread.proofs.Choosing.{clash}
-use Rattle.unread.proofs.Telling.{settles-apart, Standing, standing, isSelecting, Tells, silent, moves, selects, settles, begins, raises, reads, resets, gone, there}
+use Rattle.unread.proofs.Telling.{settles-apart, Summary, summary, Tells, silent, moves, selects, settles, begins, raises, reads, resets, gone, there}
 use Rattle.unread.proofs.Told.{told}
 use Rattle.unread.proofs.Because.{raised-because, ending-because, brings-row, reads-row}
 use Rattle.unread.proofs.Rows as W
+use Rattle.chip.proofs.Cases.{taken}
 
 pub run-more : (f : Call → State → Outcome) (l : List Call) (c : Call) (s : State) → run f (l ++ (c ∷ [])) s ≡ f c (run f l s) .state
 unfolding run
@@ -68,14 +71,8 @@ endings-begun =
 
 -- a selection
 
-is-selecting : (x : Connection) → isSelecting x ≡ true → x ≡ Selecting
-is-selecting Disconnected e = clash e refl
-is-selecting Selecting e = refl
-is-selecting Waiting e = clash e refl
-is-selecting Connected e = clash e refl
-
 -- a state that selects has nothing pending, and its command runs
-abbrev Sound : Standing → Type 0
+abbrev Sound : Summary → Type 0
 Sound z = (z .pending ≡ Nothing) × (isRunning (z .running) ≡ true)
 
 -- a call that begins a selection, as it finds the controller
@@ -86,7 +83,7 @@ record Beginning (c : Call) (s : State) : Type 0 where
   all-told : interrupted s ≡ false
 
 -- a call that leaves a selection went on with a sound one, or began it
-course : {c : Call} {s : State} {z : Standing} → Tells c s z → (s .wire .connection ≡ Selecting → Sound (standing s))
+course : {c : Call} {s : State} {z : Summary} → Tells c s z → (s .wire .connection ≡ Selecting → Sound (summary s))
     → isSelecting (z .connection) ≡ true
     → Sound z × (((s .wire .connection ≡ Selecting) × (isAnswer c ≡ false)) ⊎ Beginning c s)
 course {s = s} (silent a) h e =
@@ -103,7 +100,7 @@ course {s = s} (reads d a) h e =
 course (resets d f) h e = clash e f
 
 abbrev Selected : List Call → Type 0
-Selected l = run step l fresh .wire .connection ≡ Selecting → Sound (standing (run step l fresh)) × Unanswered step l
+Selected l = run step l fresh .wire .connection ≡ Selecting → Sound (summary (run step l fresh)) × Unanswered step l
 
 began : {c : Call} {s : State} → Beginning c s → step c s .state .wire .connection ≡ Selecting → Selects step c s
 began b x = record { command = b .command; apart = b .apart; idle = b .idle; all-told = b .all-told; selecting = x }
@@ -129,7 +126,7 @@ data Reason : Type 0 where
 
 reasonOf : ℕ → Reason
 reasonOf k =
-    pick (eqb k 0x00) resetting
+    pick (isResetCode k) resetting
     (pick (eqb k 0x11) answering
     (pick (eqb k 0x16) completing
     (pick (eqb k 0x22) aborting
@@ -141,7 +138,7 @@ reasonOf k =
 Explains : Reason → Call → State → Type 0
 Explains resetting c s = isReset c s ≡ true
 Explains answering c s = (c ≡ answer) × (s .wire .connection ≡ Selecting)
-Explains completing c s = unread (step c s .state) ≡ false
+Explains completing c s = bytesUnread (step c s .state) ≡ false
 Explains aborting c s = isCommand 0x01 c s ≡ true
 Explains refusing c s = (k : ℕ) × (isCommand k c s ≡ true)
 Explains leaving c s = c ≡ free
@@ -166,7 +163,7 @@ each-phase P a b c d e f g h MessageIn = h
 -- the three families of codes that a phase is added to, beside 88h+p
 phased : (p : Phase)
     → (reasonOf (0x18 + phaseNumber p) ≡ other) × (reasonOf (0x28 + phaseNumber p) ≡ other) × (reasonOf (0x48 + phaseNumber p) ≡ other)
-unfolding reasonOf pick both either
+unfolding reasonOf pick both either isResetCode
 phased =
     each-phase
     (λ (p : Phase). (reasonOf (0x18 + phaseNumber p) ≡ other) × (reasonOf (0x28 + phaseNumber p) ≡ other)
@@ -175,15 +172,15 @@ phased =
     (refl, refl, refl)
 
 asked : (p : Phase) → reasonOf (0x88 + phaseNumber p) ≡ asking p
-unfolding reasonOf phaseOf pick both either
+unfolding reasonOf phaseOf pick both either isResetCode
 asked = each-phase (λ (p : Phase). reasonOf (0x88 + phaseNumber p) ≡ asking p) refl refl refl refl refl refl refl refl
 
-brings-explained : {c : Call} {s : State} {k : ℕ} → Brings c s k → unread s ≡ false → Explains (reasonOf k) c s
-unfolding reasonOf Explains pick both either
+brings-explained : {c : Call} {s : State} {k : ℕ} → Brings c s k → bytesUnread s ≡ false → Explains (reasonOf k) c s
+unfolding reasonOf Explains pick both either isResetCode
 brings-explained (B.completes o t g e h) u = brings-row (B.completes o t g e h) .all-read u
 brings-explained (B.overruns {p = p} o r e) u = rw (phased p .0) tt
 brings-explained (B.saves o t g e h) u = tt
-brings-explained (B.aborts-connected {s = s} e q r x) u = rw (phased (abortPhase (s .wire .last)) .1) tt
+brings-explained (B.aborts-connected {s = s} e q r x) u = rw (phased (abortPhase (s .wire .seen .last)) .1) tt
 brings-explained (B.cuts-info q x r e) u = refl
 brings-explained (B.cuts-transfer q x r e) u = refl
 brings-explained (B.spoils o r w c f h) u = tt
@@ -191,11 +188,19 @@ brings-explained (B.surprises {p = p} o r w e) u = rw (phased p .2) tt
 brings-explained (B.leaves-info q x r e) u = refl
 brings-explained (B.leaves-transfer q x r e d) u = refl
 
+reset-reason : (k : ℕ) → isResetCode k ≡ true → reasonOf k ≡ resetting
+unfolding reasonOf
+reset-reason k e = taken _ _ e
+
+reset-code-is : (s : State) → isResetCode (resetCode s) ≡ true
+unfolding resetCode isResetCode
+reset-code-is s = refl
+
 explained : {c : Call} {s : State} {k : ℕ} → Because c s k → ReadsOut c s k ⊎ Explains (reasonOf k) c s
-unfolding reasonOf Explains pick both either
+unfolding reasonOf Explains pick both either isResetCode
 explained (B.brings h u) = inr (brings-explained h u)
 explained (B.reads h) = inl h
-explained (B.resets e) = inr e
+explained (B.resets {s = s} e) = inr (rw (reset-reason (resetCode s) (reset-code-is s)) e)
 explained (B.answers q x t) = inr (refl, x)
 explained (B.resumes {c} {s} k e w q r x p) = inr (W.resumes-row c s q r x p k e w .all-read refl)
 explained (B.takes-last l d) = inr tt
@@ -221,11 +226,11 @@ EndsBy (asking p) c = ⊥
 EndsBy other c = Unit {0}
 
 brings-by : {c : Call} {s : State} {k : ℕ} → Brings c s k → EndsBy (reasonOf k) c
-unfolding reasonOf EndsBy pick both either
+unfolding reasonOf EndsBy pick both either isResetCode
 brings-by (B.completes o t g e h) = tt
 brings-by (B.overruns {p = p} o r e) = rw (phased p .0) tt
 brings-by (B.saves o t g e h) = tt
-brings-by (B.aborts-connected {s = s} e q r x) = rw (phased (abortPhase (s .wire .last)) .1) tt
+brings-by (B.aborts-connected {s = s} e q r x) = rw (phased (abortPhase (s .wire .seen .last)) .1) tt
 brings-by (B.cuts-info q x r e) = refl
 brings-by (B.cuts-transfer q x r e) = refl
 brings-by (B.spoils o r w c f h) = tt
@@ -234,12 +239,12 @@ brings-by (B.leaves-info q x r e) = refl
 brings-by (B.leaves-transfer q x r e d) = refl
 
 begins-by : {c : Call} {s : State} {k : ℕ} → Begins c s k → EndsBy (reasonOf k) c
-unfolding reasonOf EndsBy pick both either
+unfolding reasonOf EndsBy pick both either isResetCode
 begins-by (B.brings-unread h u) = brings-by h
 begins-by (B.keeps-last l d) = tt
 
 pub time-ends-nothing : {c : Call} {s : State} → Begins c s 0x42 → ⊥
-unfolding reasonOf EndsBy pick both either
+unfolding reasonOf EndsBy pick both either isResetCode
 time-ends-nothing h = begins-by h
 
 pub since-map : {f : Call → State → Outcome} {A B M N : Call → State → Type 0} {l : List Call} → ((c : Call) (s : State) → A c s → B c s)
@@ -303,11 +308,15 @@ request-only : (l : List Call) (c : Call) (p : Phase) → Raises step l c (0x88 
 unfolding EndsBy
 request-only l c p h = rw (asked p) at (own l c h (λ d x. rw (asked p) at x))
 
+reset-only : (l : List Call) (c : Call) (k : ℕ) → isResetCode k ≡ true → Raises step l c k → isReset c (run step l fresh) ≡ true
+unfolding Explains EndsBy
+reset-only l c k e h = rw (reset-reason k e) at (own l c h (λ d x. rw (reset-reason k e) at x))
+
 pub codes-only-by : CodesOnlyBy step
-unfolding reasonOf Explains EndsBy pick both either
+unfolding reasonOf Explains EndsBy pick both either isResetCode
 codes-only-by =
     record {
-      by-reset = λ l c h. own l c h (λ d x. x);
+      by-reset = reset-only;
       by-answer = λ l c h. own l c h (λ d x. x);
       all-read = λ l c h. ⊎-elim (λ r. reads-row r .all-read refl) (λ e. e) (why l c h);
       by-abort = λ l c h. own l c h (λ d x. x);

@@ -15,9 +15,10 @@ use lib.ListN.{getD}
 use Rattle.chip.specs.Choice.{pick, both, either}
 use Rattle.chip.specs.Phases.{phaseOf}
 use Rattle.chip.specs.Lines.{codeOf, qualifies}
-use Rattle.chip.specs.Interrupts.{isEnding, ends, isRunning, busy, withoutInterrupt}
+use Rattle.chip.specs.Interrupts.{isEnding, inEnding, busy, withoutInterrupt}
+use Rattle.chip.specs.Running.{isRunning}
 use Rattle.chip.specs.Commands.{isTwo, isValid, isRefusedBusy, entryOf, table, leftOut, carriedOut, accepted, commanded}
-use Rattle.chip.specs.Answers.{done, held}
+use Rattle.chip.specs.Answers.{done, held, outOfPlace}
 use Rattle.chip.specs.Registers as R
 use Rattle.chip.specs.Events as E
 use Rattle.chip.specs.Calls.{Call, Outcome, pointer, auxiliary, register, block, time, answer, reselection, request, free, isGood, isSet, lentBy, plain, carried, step}
@@ -28,17 +29,16 @@ use Rattle.chip.specs.declared.Entry.{Entry}
 use Rattle.chip.specs.declared.Answer.the-variants.{BadNumber}
 use Rattle.chip.specs.declared.Pending.{Pending}
 use Rattle.chip.specs.declared.Pending.the-variants.{Nothing, Interrupt, Ending, ReadOut}
-use Rattle.chip.specs.declared.Connection.{Connection}
-use Rattle.chip.specs.declared.Connection.the-variants.{Disconnected, Selecting, Waiting, Connected}
 use Rattle.unread.specs.Status.{isCommand, isReset, isDisconnect}
 use Rattle.unread.specs.Because.{ReadsLast}
 use Rattle.unread.specs.Ending.{isEvent, isTime, isRefusal, Untouched, isDataAccess, EndingIsStill}
-use Rattle.chip.proofs.Cases.{by-pick, by-case, by-test, both-first, both-second, either-first, either-rest, either-second, either-last}
-use Rattle.unread.proofs.Choosing.{clash, taken, passed-over, one-or, one-of}
-use Rattle.unread.proofs.Telling.{Standing, disconnects, reads-out, has-read, read-out-quiet, Tells, silent, moves, selects, settles, begins, raises, reads, resets}
+use Rattle.chip.proofs.Cases.{by-pick, by-case, by-test, both-first, both-second, either-first, either-rest, either-second, either-last, taken, passed-over}
+use Rattle.unread.proofs.Choosing.{clash, one-or, one-of}
+use Rattle.unread.proofs.Telling.{Summary, disconnects, reads-out, has-read, read-out-quiet, Tells, silent, moves, selects, settles, begins, raises, reads, resets}
 use Rattle.unread.proofs.Host.{invalid-idle, abort-ends, is-disconnect}
 use Rattle.unread.proofs.Told.{good-step}
 use Rattle.unread.proofs.Because.{Found, quiet, reading-out, resetting, because-found}
+use Rattle.chip.specs.Connections.{isConnected}
 
 -- no bus event
 
@@ -87,50 +87,47 @@ stands-still {s} h c v = by-test (isGood c) (λ g. good-still c v (good-step c s
         refuses (request p b q) s (E.requested (phaseOf p) b (isSet q) s) e (h .request (phaseOf p) b (isSet q))
     good-still free v e = refuses free s (E.freed s) e (h .free)
 
-module _ (s : State) (e : ends s ≡ true) where
+module _ (s : State) (e : inEnding s ≡ true) where
   abbrev Back : Reply → Type 0
   Back r = Refuses s r
 
-  held-back : (r : Reply) → Back (pick (ends s) (held s) r)
+  held-back : (r : Reply) → Back (pick (inEnding s) (held s) r)
   unfolding pick
   held-back r = rw e (record { same = refl; refused = refl })
 
-  answer-back : (x : Connection) → Back (E.answeredBy x s)
-  unfolding E.answeredSelecting
-  answer-back Disconnected = record { same = refl; refused = refl }
-  answer-back Selecting = held-back _
-  answer-back Waiting = record { same = refl; refused = refl }
-  answer-back Connected = record { same = refl; refused = refl }
+  answer-back : Back (E.answered s)
+  unfolding E.answered E.answeredSelecting
+  answer-back = by-pick Back _ (held-back _) (record { same = refl; refused = refl })
 
-  reselection-back : (lines : ℕ) (x : Connection) → Back (E.reselectedBy x lines s)
-  reselection-back lines Disconnected = held-back _
-  reselection-back lines Selecting = held-back _
-  reselection-back lines Waiting = held-back _
-  reselection-back lines Connected = record { same = refl; refused = refl }
+  reselection-back : (lines : ℕ) → Back (pick (isConnected (s .wire .connection)) (outOfPlace s) (E.reselectedApart lines s))
+  unfolding E.reselectedApart
+  reselection-back lines = by-pick Back _ (record { same = refl; refused = refl }) (held-back _)
 
-  request-back : (p : Phase) (b : ℕ) (bad : Bool) (x : Connection) → Back (E.remembered p (E.requestedBy x p b bad s))
-  unfolding E.remembered E.requestedConnected pick
-  request-back p b bad Disconnected = record { same = refl; refused = refl }
-  request-back p b bad Selecting = record { same = refl; refused = refl }
-  request-back p b bad Waiting = record { same = refl; refused = refl }
-  request-back p b bad Connected = rw e (record { same = refl; refused = refl })
+  request-back : (p : Phase) (b : ℕ) (bad : Bool) → Back (E.requested p b bad s)
+  unfolding E.requested E.requestedConnected
+  request-back p b bad =
+      by-pick Kept _ (by-case Kept _ (λ i. unmoved) (λ n. clash e n)) (unfold E.remembered in record { same = refl; refused = refl })
+    where
+      Kept : Reply → Type 0
+      Kept r = Back (E.remembered p r)
 
-  free-back : (x : Connection) → Back (E.freedBy x s)
-  free-back Disconnected = record { same = refl; refused = refl }
-  free-back Selecting = record { same = refl; refused = refl }
-  free-back Waiting = record { same = refl; refused = refl }
-  free-back Connected = held-back _
+      unmoved : Kept (held s)
+      unmoved = unfold E.remembered in record { same = refl; refused = refl }
+
+  free-back : Back (E.freed s)
+  unfolding E.freed
+  free-back = by-pick Back _ (held-back _) (record { same = refl; refused = refl })
 
   ending-stands : Stands s
   unfolding E.passed E.answered E.reselected E.requested E.freed
   ending-stands =
       record {
         time = λ n. taken _ _ e;
-        answer = answer-back (s .wire .connection);
+        answer = answer-back;
         reselection = λ lines.
-            by-pick Back (qualifies lines s) (reselection-back lines (s .wire .connection)) (record { same = refl; refused = refl });
-        request = λ p b bad. request-back p b bad (s .wire .connection);
-        free = free-back (s .wire .connection);
+            by-pick Back (qualifies lines s) (reselection-back lines) (record { same = refl; refused = refl });
+        request = request-back;
+        free = free-back;
       }
 
 pub ending-is-still : EndingIsStill step
@@ -144,13 +141,13 @@ same-ending Interrupt e = clash e refl
 same-ending (Ending k) e = refl
 same-ending ReadOut e = refl
 
-module _ {c : Call} {s : State} (e : ends s ≡ true) (r : isReset c s ≡ false) (d : isDisconnect c s ≡ false) (n : ReadsLast c s → ⊥) where
+module _ {c : Call} {s : State} (e : inEnding s ≡ true) (r : isReset c s ≡ false) (d : isDisconnect c s ≡ false) (n : ReadsLast c s → ⊥) where
   found-ends : {P : Type 0} {k : ℕ} → Found c s k → P
   found-ends (quiet q) = clash e (ap isEnding q)
   found-ends (reading-out h) = absurd (n (h .last))
   found-ends (resetting f) = clash f r
 
-  pub pending-stays : {z : Standing} → Tells c s z → z .pending ≡ s .status .pending
+  pub pending-stays : {z : Summary} → Tells c s z → z .pending ≡ s .status .pending
   pending-stays (silent a) = refl
   pending-stays (moves x) = refl
   pending-stays (selects f q x b m) = refl
@@ -216,7 +213,7 @@ pub record Stays (s t : State) : Type 0 where
 pub stay : (s : State) → Stays s s
 stay s = record { bytes = refl; transfer = refl; connection = refl }
 
-module _ (s : State) (e : ends s ≡ true) where
+module _ (s : State) (e : inEnding s ≡ true) where
   is-busy : busy s ≡ true
   unfolding busy
   is-busy = rw e (either-last (isRunning (s .transfer .running)))

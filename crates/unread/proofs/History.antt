@@ -8,18 +8,18 @@ use mathlib.Core.Bool.{true, false}
 use mathlib.Core.List.{List, [], _∷_, _++_}
 use Prim.Native.Nat.{ℕ}
 use Rattle.chip.specs.Choice.{pick, both, either}
-use Rattle.chip.specs.State.{fresh}
-use Rattle.chip.specs.Interrupts.{interrupted, isInterrupt, isEnding, isRunning, busy, withoutInterrupt}
-use Rattle.chip.specs.Calls.{Call, Outcome, step, after}
+use Rattle.chip.specs.Interrupts.{interrupted, isInterrupt, isEnding, busy, withoutInterrupt}
+use Rattle.chip.specs.Running.{isRunning}
+use Rattle.chip.specs.Calls.{Call, Outcome, step, run}
 use Rattle.chip.specs.declared.State.{State}
 use Rattle.chip.specs.declared.Pending.{Pending}
 use Rattle.chip.specs.declared.Pending.the-variants.{Nothing, Interrupt, Ending, ReadOut}
 use Rattle.unread.specs.Status.{isReset, isDisconnect, readsAt}
 use Rattle.unread.specs.History as H
-use Rattle.unread.specs.History.{Happening, Owed, nothing, unread, coming, owedBy, isComing, noted, readBy, begunBy, history, run, lastCode, owedAfter, Orderly, Follows, isRaising, hasRead, NoStatusLost}
+use Rattle.unread.specs.History.{Happening, Owed, nothing, unread, coming, owedBy, isComing, noted, readBy, begunBy, history, lastCode, owedAfter, Orderly, Follows, isRaising, hasRead, NoStatusLost}
 use Rattle.chip.proofs.Cases.{by-case, both-first, both-second, either-rest}
 use Rattle.unread.proofs.Choosing.{clash}
-use Rattle.unread.proofs.Telling.{disconnects, reads-out, has-read, read-out-quiet, Standing, Tells, silent, moves, selects, settles, begins, raises, reads, resets}
+use Rattle.unread.proofs.Telling.{disconnects, reads-out, has-read, read-out-quiet, Summary, Tells, silent, moves, selects, settles, begins, raises, reads, resets}
 use Rattle.unread.proofs.Told.{told, reset-told, disconnect-told, ReadTold, blind, read, status-read}
 use Rattle.unread.proofs.Unread.{int-pending, raised-from-quiet, raised-sets-int, raised-anew}
 use Rattle.unread.proofs.Because.{Found, quiet, reading-out, resetting, because-found, raised-because}
@@ -27,7 +27,7 @@ use Rattle.unread.proofs.Because.{Found, quiet, reading-out, resetting,
 -- what the happenings of one call say of the code and of what is pending, before it and after it
 data Leads : ℕ → Pending → ℕ → Pending → List Happening → Type 0 where
   still : {k : ℕ} {q p : Pending} → owedBy p ≡ owedBy q → Leads k q k p []
-  reset : {k : ℕ} {q : Pending} → Leads k q 0x00 Interrupt (H.resets ∷ [])
+  reset : {k j : ℕ} {q : Pending} → Leads k q j Interrupt (H.resets j ∷ [])
   raise : {k j : ℕ} {q : Pending} → owedBy q ≡ nothing → Leads k q j Interrupt (H.raises j ∷ [])
   raise-owed : {k j : ℕ} → Leads k (Ending j) j Interrupt (H.raises j ∷ [])
   tell : {k : ℕ} {q p : Pending} → isComing q ≡ false → owedBy p ≡ nothing → Leads k q k p (H.reads k ∷ [])
@@ -87,7 +87,7 @@ owes-nothing (Ending k) i e = clash refl e
 owes-nothing ReadOut i e = refl
 
 -- a call that is no Reset, raises nothing, drops nothing and does not read 17h
-calm-leads : {c : Call} {s : State} {z : Standing} → Tells c s z → isReset c s ≡ false
+calm-leads : {c : Call} {s : State} {z : Summary} → Tells c s z → isReset c s ≡ false
     → (interrupted s ≡ false → isInterrupt (z .pending) ≡ true → ⊥) → both (isDisconnect c s) (isComing (s .status .pending)) ≡ false
     → readsAt 0x17 c s ≡ false
     → Leads (s .status .code) (s .status .pending) (z .code) (z .pending) (begunBy (s .status .pending) (z .pending))
@@ -172,7 +172,7 @@ in-order (c ∷ l) s = preceded (leads c s) (in-order l (step c s .state))
 -- from an unread code on, the next code that is no Reset's comes after a read
 read-before : {w : ℕ} (k : ℕ) (j h : List Happening) → Orderly w unread (h ++ (H.raises k ∷ j)) → hasRead h ≡ true
 unfolding hasRead either
-read-before k j (H.resets ∷ h) (H.resetting o) = read-before k j h o
+read-before k j (H.resets i ∷ h) (H.resetting o) = read-before k j h o
 read-before k j (H.reads v ∷ h) (H.reading o) = refl
 
 -- what is left of an orderly history is orderly, from some code on
@@ -180,7 +180,7 @@ later : {k : ℕ} {w : Owed} (g h : List Happening) → Orderly k w (g ++ h) →
 later [] h o = (_, _, o)
 later (H.raises j ∷ g) h (H.raising o) = later g h o
 later (H.raises j ∷ g) h (H.coming-up o) = later g h o
-later (H.resets ∷ g) h (H.resetting o) = later g h o
+later (H.resets j ∷ g) h (H.resetting o) = later g h o
 later (H.reads v ∷ g) h (H.reading o) = later g h o
 later (H.reads v ∷ g) h (H.again o) = later g h o
 later (H.begins j ∷ g) h (H.beginning o) = later g h o
@@ -190,7 +190,7 @@ after-raising : {k : ℕ} {w : Owed} {h : List Happening} (x : Happening) → is
     → (j : ℕ) × Orderly j unread h
 after-raising (H.raises j) e (H.raising o) = (j, o)
 after-raising (H.raises j) e (H.coming-up o) = (j, o)
-after-raising H.resets e (H.resetting o) = (0x00, o)
+after-raising (H.resets j) e (H.resetting o) = (j, o)
 after-raising (H.reads v) e o = clash e refl
 after-raising (H.begins j) e o = clash e refl
 after-raising H.disconnects e o = clash e refl
@@ -218,16 +218,3 @@ no-status-lost =
           let o : Orderly (s .status .code) (owedBy (s .status .pending)) (g ++ (H.begins k ∷ h)) = rw e at (in-order l s) in
           after-beginning (later g _ o .2);
     }
-
--- from a fresh state, in the words of the chip's `after`
-
-pub ran : (l : List Call) (s : State) → run step l s ≡ after l s
-unfolding run after
-ran [] s = refl
-ran (c ∷ l) s = ran l (step c s .state)
-
-pub code-after : (l : List Call) → after l fresh .status .code ≡ lastCode 0x00 (history step l fresh)
-code-after l = rw (← (ran l fresh)) (code-last l fresh)
-
-pub owed-after : (l : List Call) → owedBy (after l fresh .status .pending) ≡ owedAfter nothing (history step l fresh)
-owed-after l = rw (← (ran l fresh)) (owed-last l fresh)

@@ -2,7 +2,7 @@
 --   commanded-tells   a command
 --   accessed-tells    a register access
 --   block-tells block-written-tells   a block
---   some-wait holds-some one-less     how many bytes wait
+--   some-waits waits-some pop-less     how many bytes wait
 --   Pops pops         what one read of the Data register leads to
 --   written-keeps block-keeps stored-keeps   what does not look at the FIFO, or at the registers, is kept by a write of them
 --   going             what holds where a block goes on and where it stops
@@ -18,17 +18,18 @@ use Prim.Native.Nat.{ℕ, zero, suc, _-_, _<_, _≤_}
 use native.Mathlib.Omega.{arith}
 use lib.Dec.{eqb}
 use lib.ListN.{length, getD, drop}
-use borrow.Author.Tests.{eqb-true, eqb-false, eq-eqb, ne-eqb, not-true}
+use borrow.Author.Tests.{eqb-true, eq-eqb, not-true}
 use Rattle.chip.specs.Choice.{pick, both, either}
 use Rattle.chip.specs.Lines.{codeOf}
-use Rattle.chip.specs.Interrupts.{interrupted, ends, isEnding, busy, isRunning, raise, outgoingDropped, settled, settledBy, unread, isIncoming}
-use Rattle.chip.specs.Count.{loaded, loadedInfo}
+use Rattle.chip.specs.Interrupts.{interrupted, inEnding, isEnding, busy, raise, outgoingDropped, settled, settledBy, bytesUnread, isIncoming}
+use Rattle.chip.specs.Running.{isRunning}
+use Rattle.chip.specs.Count.{loaded, loadedForTransferInfo, dbr}
 use Rattle.chip.specs.SelectAndTransfer.{resumed, fromDisconnected}
-use Rattle.chip.specs.Commands.{isConnected, isValid, isReady, isPlace, isTwo, isRefusedBusy, leftOut, entryOf, table, reset, aborted, disconnected, selecting, transferring, informing, carriedOut, accepted, commanded}
+use Rattle.chip.specs.Commands.{isValid, isReady, isPlace, isTwo, isRefusedBusy, leftOut, entryOf, table, reset, aborted, disconnected, selecting, selectAndTransferBegun, transferInfoBegun, carriedOut, accepted, commanded}
+use Rattle.chip.specs.Connections.{isConnected, isSelecting}
 use Rattle.chip.specs.Calls.{Call, register, block, isGood, isSet}
 use Rattle.chip.specs.State.{setRegisters, setFifo, setPending, setConnection}
 use Rattle.chip.specs.Fifo.{isEmpty, pop, waits}
-use Rattle.chip.specs.TransferInfo.{dbr}
 use Rattle.chip.specs.Registers.{Moved, goOn, dataRead, dataReadBy, dataWritten, dataWrittenBy, blockRead, blockWritten, stored, readAt, writtenAt, accessedAt, accessed, stepped}
 use Rattle.chip.specs.declared.State.{State}
 use Rattle.chip.specs.declared.Fifo.{Fifo}
@@ -50,7 +51,9 @@ use Rattle.unread.specs.Because as B
 use Rattle.unread.specs.Because.{Quiet, ReadsLast}
 use Rattle.chip.proofs.Cases.{by-pick, by-case, by-test, both-first, both-second, either-first, either-rest, either-second}
 use Rattle.unread.proofs.Choosing.{clash, not-first, only-first, one-or, one-of}
-use Rattle.unread.proofs.Telling.{connected-apart, Standing, standing, isSelecting, Tells, ToldState, so, ToldReply, disconnects, has-read, silent, moves, selects, settles, raises, reads, resets, gone, there, ended, brought, quiet-of, is-connected, is-disconnected}
+use Rattle.unread.proofs.Telling.{connected-apart, Summary, summary, Tells, ToldState, so, ToldReply, disconnects, has-read, silent, moves, selects, settles, raises, reads, resets, gone, there, ended, brought, quiet-of}
+use Rattle.chip.proofs.Numbers.{is-selecting, is-connected, is-disconnected}
+use Rattle.chip.proofs.FifoLaws.{some-waits, none-waits, pop-less, waits-some}
 
 -- commands
 
@@ -58,7 +61,7 @@ pub not-busy-runs : (s : State) → busy s ≡ false → isRunning (s .transfer 
 unfolding busy
 not-busy-runs s e = either-first _ _ e
 
-pub not-busy-ends : (s : State) → busy s ≡ false → ends s ≡ false
+pub not-busy-ends : (s : State) → busy s ≡ false → inEnding s ≡ false
 unfolding busy
 not-busy-ends s e = either-rest (isRunning (s .transfer .running)) _ e
 
@@ -123,22 +126,21 @@ valid-apart (suc zero) s n o v = clash refl o
 valid-apart (suc (suc k)) s n o v = by-connection (s .wire .connection) (both-first _ _ v)
   where
     by-connection : (x : Connection) → isPlace (entryOf (suc (suc k)) .place) x ≡ true → isSelecting x ≡ false
-    by-connection Disconnected e = refl
-    by-connection Selecting e = clash e (not-true _ (each-barred (drop 2 table) refl k))
-    by-connection Waiting e = refl
-    by-connection Connected e = refl
+    by-connection x e =
+        by-test (isSelecting x)
+        (λ y. clash (rw (is-selecting x y) at e) (not-true _ (each-barred (drop 2 table) refl k))) (λ n. n)
 
 -- a valid Abort: a command runs, and no ending is under way
-abort-ready : (k : ℕ) (s : State) → eqb k 0x01 ≡ true → isValid k s ≡ true → both (busy s) (not (ends s)) ≡ true
+abort-ready : (k : ℕ) (s : State) → eqb k 0x01 ≡ true → isValid k s ≡ true → both (busy s) (not (inEnding s)) ≡ true
 unfolding isValid isReady pick
 abort-ready k s e v = rw e at (both-second (isPlace (entryOf k .place) (s .wire .connection)) _ v)
 
-pub abort-ends : (k : ℕ) (s : State) → eqb k 0x01 ≡ true → isValid k s ≡ true → ends s ≡ false
-abort-ends k s e v = not-true (ends s) (both-second (busy s) _ (abort-ready k s e v))
+pub abort-ends : (k : ℕ) (s : State) → eqb k 0x01 ≡ true → isValid k s ≡ true → inEnding s ≡ false
+abort-ends k s e v = not-true (inEnding s) (both-second (busy s) _ (abort-ready k s e v))
 
 pub abort-runs : (k : ℕ) (s : State) → eqb k 0x01 ≡ true → isValid k s ≡ true → isRunning (s .transfer .running) ≡ true
 unfolding busy
-abort-runs k s e v = only-first _ (ends s) (both-first (busy s) _ (abort-ready k s e v)) (abort-ends k s e v)
+abort-runs k s e v = only-first _ (inEnding s) (both-first (busy s) _ (abort-ready k s e v)) (abort-ends k s e v)
 
 module _
     (m b : ℕ) (s : State) (good : isGood (register m b) ≡ true) (set : isSet m ≡ true)
@@ -153,7 +155,7 @@ module _
   pub own-code : isCommand (codeOf b) (register m b) s ≡ true
   own-code = is-command (codeOf b) (eq-eqb (codeOf b) (codeOf b) refl)
 
-  still : Tells (register m b) s (standing s)
+  still : Tells (register m b) s (summary s)
   still = silent (λ q. refl)
 
   -- a valid Disconnect finds the controller connected
@@ -169,7 +171,7 @@ module _
 
   module _ (i : interrupted s ≡ false) where
     aborted-tells : eqb (codeOf b) 0x01 ≡ true → isValid (codeOf b) s ≡ true → Told (aborted (accepted b s))
-    unfolding aborted accepted raise outgoingDropped unread
+    unfolding aborted accepted raise outgoingDropped bytesUnread
     aborted-tells e v =
         let q : Quiet s = quiet-of _ i (abort-ends _ s e v) in
         by-case Told _
@@ -181,8 +183,8 @@ module _
     select-quiet w f = quiet-of _ i (not-busy-ends s (select-idle (codeOf b) s w f))
 
     transferring-tells : (r : Running) → isRunning r ≡ true → either (eqb (codeOf b) 0x08) (eqb (codeOf b) 0x09) ≡ true
-        → isRefusedBusy (codeOf b) s ≡ false → isValid (codeOf b) s ≡ true → Told (transferring r (accepted b s))
-    unfolding transferring resumed accepted selecting fromDisconnected loaded unread both
+        → isRefusedBusy (codeOf b) s ≡ false → isValid (codeOf b) s ≡ true → Told (selectAndTransferBegun r (accepted b s))
+    unfolding selectAndTransferBegun resumed accepted selecting fromDisconnected loaded bytesUnread both
     transferring-tells r n w f u =
         let v : isSelectCode (codeOf b) ≡ true = transfer-selects (codeOf b) w in
         let q : Quiet s = select-quiet v f in
@@ -195,7 +197,7 @@ module _
 
     carried-tells : (single : Bool) → eqb (codeOf b) 0x00 ≡ false → isRefusedBusy (codeOf b) s ≡ false → isValid (codeOf b) s ≡ true
         → Told (carriedOut (codeOf b) single (accepted b s))
-    unfolding carriedOut accepted disconnected selecting informing loadedInfo isSelectCode either
+    unfolding carriedOut accepted disconnected selecting transferInfoBegun loadedForTransferInfo isSelectCode either
     carried-tells single n0 r v =
         by-case Told _ (λ e. aborted-tells e v)
         (λ n1. let z : isSelecting (s .wire .connection) ≡ false = valid-apart (codeOf b) s n0 n1 v in
@@ -237,35 +239,19 @@ pub data Pops (s : State) : State → Type 0 where
       → Pops s (setConnection Waiting (setPending Nothing (setFifo (pop (s .fifo)) s)))
 
 -- at most n reads of the Data register, made in s, leave z
-pub data Drains (n : ℕ) (s : State) : Standing → Type 0 where
-  drains-nothing : Drains n s (standing s)
+pub data Drains (n : ℕ) (s : State) : Summary → Type 0 where
+  drains-nothing : Drains n s (summary s)
   drains-wait : isIncoming (s .transfer .direction) ≡ true → 0 < waits (s .fifo) → waits (s .fifo) ≤ n → s .status .pending ≡ ReadOut
       → Drains n s (record { code = s .status .code; pending = Nothing; connection = Waiting; running = s .transfer .running })
   drains-ending : {k : ℕ} → isIncoming (s .transfer .direction) ≡ true → 0 < waits (s .fifo) → waits (s .fifo) ≤ n
       → s .status .pending ≡ Ending k
       → Drains n s (record { code = k; pending = Interrupt; connection = s .wire .connection; running = Idle })
 
-pub some-wait : (q : Fifo) → isEmpty q ≡ false → 0 < waits q
-unfolding isEmpty waits
-some-wait q e = omega (arith, eqb-false (q .held) 0 e)
-
-none-wait : (q : Fifo) → isEmpty q ≡ true → waits q ≡ 0
-unfolding isEmpty waits
-none-wait q e = eqb-true (q .held) 0 e
-
-pub one-less : (q : Fifo) → isEmpty q ≡ false → waits (pop q) ≡ waits q - 1
-unfolding pop pick waits
-one-less q e = rw e
-
-pub holds-some : (q : Fifo) → 0 < waits q → isEmpty q ≡ false
-unfolding isEmpty waits
-holds-some q w = ne-eqb (q .held) 0 (λ e. omega arith)
-
 pops-settled : (s : State) (q : Pending) → s .status .pending ≡ q → isIncoming (s .transfer .direction) ≡ true → waits (s .fifo) ≡ 1
     → Pops s (settledBy q (setFifo (pop (s .fifo)) s))
 unfolding settledBy
-pops-settled s Nothing e d w = one-read d (holds-some (s .fifo) (omega arith))
-pops-settled s Interrupt e d w = one-read d (holds-some (s .fifo) (omega arith))
+pops-settled s Nothing e d w = one-read d (waits-some (s .fifo) (omega arith))
+pops-settled s Interrupt e d w = one-read d (waits-some (s .fifo) (omega arith))
 pops-settled s (Ending k) e d w = ending-read d w e
 pops-settled s ReadOut e d w = wait-read d w e
 
@@ -280,7 +266,7 @@ pops-in s d =
     holds e = not-true _ (unfold dbr in rw d at e)
 
     last-one : dbr s ≡ true → isEmpty (pop (s .fifo)) ≡ true → waits (s .fifo) ≡ 1
-    last-one e w = omega (arith, some-wait _ (holds e), one-less _ (holds e), none-wait _ w)
+    last-one e w = omega (arith, some-waits _ (holds e), pop-less _ (holds e), none-waits _ w)
 
 pub pops : (s : State) → Pops s (dataRead s .state)
 unfolding dataRead
@@ -292,14 +278,14 @@ pops s = by-way _ refl
     by-way Out d = nothing-read
 
 -- one read, and then at most n
-pub then : {n : ℕ} {s t : State} {z : Standing} → Pops s t → Drains n t z → Drains (suc n) s z
+pub then : {n : ℕ} {s t : State} {z : Summary} → Pops s t → Drains n t z → Drains (suc n) s z
 unfolding raise outgoingDropped
 then nothing-read drains-nothing = drains-nothing
 then nothing-read (drains-wait d w v e) = drains-wait d w (omega arith) e
 then nothing-read (drains-ending d w v e) = drains-ending d w (omega arith) e
 then (one-read d w) drains-nothing = drains-nothing
-then {s = s} (one-read d w) (drains-wait d' w' v e) = drains-wait d (some-wait (s .fifo) w) (omega (arith, one-less (s .fifo) w)) e
-then {s = s} (one-read d w) (drains-ending d' w' v e) = drains-ending d (some-wait (s .fifo) w) (omega (arith, one-less (s .fifo) w)) e
+then {s = s} (one-read d w) (drains-wait d' w' v e) = drains-wait d (some-waits (s .fifo) w) (omega (arith, pop-less (s .fifo) w)) e
+then {s = s} (one-read d w) (drains-ending d' w' v e) = drains-ending d (some-waits (s .fifo) w) (omega (arith, pop-less (s .fifo) w)) e
 then (ending-read d w e) drains-nothing = drains-ending d (omega arith) (omega arith) e
 then (ending-read d w e) (drains-wait d' w' v f) = clash (ap isEnding f) refl
 then (ending-read d w e) (drains-ending d' w' v f) = clash (ap isEnding f) refl
@@ -319,11 +305,11 @@ going P ReselectionIgnored on stop x y = y
 going P NoDataNow on stop x y = y
 going P Reported on stop x y = y
 
-pub block-drains : (l : List ℕ) (s : State) → Drains (length l) s (standing (blockRead l s .state))
+pub block-drains : (l : List ℕ) (s : State) → Drains (length l) s (summary (blockRead l s .state))
 unfolding blockRead
 block-drains [] s = drains-nothing
 block-drains (x ∷ l) s =
-    going (λ (r : Moved). Drains (suc (length l)) s (standing (r .state))) (dataRead s .answer) _ _
+    going (λ (r : Moved). Drains (suc (length l)) s (summary (r .state))) (dataRead s .answer) _ _
     (λ v. then (pops s) (block-drains l (dataRead s .state)))
     drains-nothing
 
@@ -351,20 +337,9 @@ block-keeps g k (b ∷ l) s =
 pub stored-keeps : {A : Type 0} (g : State → A) → ((x : Registers) (t : State) → g (setRegisters x t) ≡ g t) → (a b : ℕ) (s : State)
     → g (stored a b s) ≡ g s
 unfolding stored
-stored-keeps g k a b s =
-    by-pick So _ (k _ _)
-    (by-pick So _ (k _ _)
-    (by-pick So _ (k _ _)
-    (by-pick So _ (k _ _)
-    (by-pick So _ (k _ _)
-    (by-pick So _ (k _ _)
-    (by-pick So _ (k _ _)
-    (by-pick So _ (k _ _) (by-pick So _ (k _ _) (by-pick So _ (k _ _) (by-pick So _ (k _ _) (k _ _)))))))))))
-  where
-    So : State → Type 0
-    So t = g t ≡ g s
+stored-keeps g k a b s = k _ _
 
-drained : {c : Call} {n : ℕ} {s : State} {z : Standing} → isAnswer c ≡ false
+drained : {c : Call} {n : ℕ} {s : State} {z : Summary} → isAnswer c ≡ false
     → (isIncoming (s .transfer .direction) ≡ true → 0 < waits (s .fifo) → waits (s .fifo) ≤ n → ReadsLast c s)
     → Drains n s z → Tells c s z
 drained a h drains-nothing = silent (λ q. a)
@@ -378,7 +353,7 @@ module _ (m b : ℕ) (s : State) (good : isGood (register m b) ≡ true) where
   abbrev Says : Reply → Type 0
   Says r = ToldReply (register m b) s r
 
-  unmoved : Tells (register m b) s (standing s)
+  unmoved : Tells (register m b) s (summary s)
   unmoved = silent (λ q. refl)
 
   pub is-read : (a : ℕ) → isSet m ≡ false → eqb (s .status .pointer) a ≡ true → readsAt a (register m b) s ≡ true
@@ -398,8 +373,8 @@ module _ (m b : ℕ) (s : State) (good : isGood (register m b) ≡ true) where
   unfolding writtenAt
   written-tells w =
       by-case Says _ (commanded-tells m b s good w)
-      (λ n. by-pick Says _ (so (rw (written-keeps standing (λ x t. refl) b s) unmoved))
-      (so (rw (stored-keeps standing (λ x t. refl) (s .status .pointer) b s) unmoved)))
+      (λ n. by-pick Says _ (so (rw (written-keeps summary (λ x t. refl) b s) unmoved))
+      (so (rw (stored-keeps summary (λ x t. refl) (s .status .pointer) b s) unmoved)))
 
   at-address-tells : Says (accessedAt (s .status .pointer) (isSet m) b s)
   unfolding accessedAt
@@ -414,4 +389,4 @@ pub block-tells : (m : ℕ) (l : List ℕ) (s : State) → isGood (block m l) �
 block-tells m l s good w = so (drained refl (λ d v u. B.slice good w d v u) (block-drains l s))
 
 pub block-written-tells : (m : ℕ) (l : List ℕ) (s : State) → ToldState (block m l) s (blockWritten l s .state)
-block-written-tells m l s = so (rw (block-keeps standing (λ x t. refl) l s) (silent (λ q. refl)))
+block-written-tells m l s = so (rw (block-keeps summary (λ x t. refl) l s) (silent (λ q. refl)))

@@ -1,8 +1,8 @@
 -- Each law refuses a wrong step: `Law wrong → ⊥`. What is wrong is said in specs/Wrong.antt.
 --   callsFilled callsEnding   calls from a fresh controller that lead to a byte that waits, and to an ending with it
---   hasty-refused peeking-refused soft-refused           by UnreadStatusKept
+--   hasty-refused peeking-refused soft-refused misnames-refused   by UnreadStatusKept
 --   mumbling-refused                                     by CodeMovesOnlyByRaising
---   hasty-loses peeking-hides mumbling-lies forgetful-stale   by NoStatusLost
+--   hasty-loses peeking-hides mumbling-lies misnames-lies forgetful-stale   by NoStatusLost
 --   sluggish-refused hurried-refused                     by RaisedBecause
 --   hurried-ends invents-refused                         by EndingBecause
 --   meddling-refused                                     by EndingsBegun
@@ -19,7 +19,7 @@ use native.Mathlib.Omega.{arith}
 use lib.ListN.{replicate}
 use Rattle.chip.specs.State.{fresh, setCode, setPending, setPointer, setTimeout, setConnection, setRunning, setDirection, setCount, setFifo}
 use Rattle.chip.specs.Interrupts.{isInterrupt, isEnding, isIncoming}
-use Rattle.chip.specs.Calls.{Call, pointer, auxiliary, register, time, answer, request, free, kind, after}
+use Rattle.chip.specs.Calls.{Call, pointer, auxiliary, register, time, answer, request, free, kind, run, step}
 use Rattle.chip.specs.declared.State.{State}
 use Rattle.chip.specs.declared.Fifo.{Fifo}
 use Rattle.chip.specs.declared.Transfer.{Transfer}
@@ -40,10 +40,11 @@ use Rattle.unread.specs.Because.{ReadsLast, RaisedBecause, EndingBecause
 use Rattle.unread.specs.Ending.{isDataRead, EndingIsStill, EndingStays}
 use Rattle.unread.specs.Codes.{EndingsBegun, Unanswered, SelectionsBegun, CodesOnlyBy}
 use Rattle.unread.specs.Wrong as W
-use Rattle.unread.specs.Wrong.{hasty, peeking, mumbling, soft, forgetful, hurried, sluggish, mistaken, meddling, deaf, drops, renames, spills, shrugs, invents, blanks, eats, hollows, shuts}
+use Rattle.unread.specs.Wrong.{hasty, peeking, mumbling, soft, misnames, forgetful, hurried, sluggish, mistaken, meddling, deaf, drops, renames, spills, shrugs, invents, blanks, eats, hollows, shuts}
 use Rattle.unread.proofs.Choosing.{clash}
 use Rattle.unread.proofs.Because.{because-row}
 use Rattle.unread.proofs.Codes.{since-began, since-last, time-ends-nothing}
+use Rattle.chip.specs.Fifo.{waits}
 
 -- a status 16h that nobody has read, with the pointer at a
 abbrev unreadAt : ℕ → State
@@ -61,6 +62,10 @@ pub soft-refused : UnreadStatusKept soft → ⊥
 unfolding everything soft isReset isCommand
 soft-refused h = clash (h .reset-tells (register 1 0) (setPointer 0x18 fresh) refl) refl
 
+pub misnames-refused : UnreadStatusKept misnames → ⊥
+unfolding everything misnames isReset isCommand
+misnames-refused h = let z : _≡_ {A = ℕ} 0x16 0x00 = h .reset-code (register 1 0) (setPointer 0x18 fresh) refl in omega arith
+
 pub mumbling-refused : CodeMovesOnlyByRaising mumbling → ⊥
 unfolding everything mumbling W.changed
 mumbling-refused h = clash (h .int-with-code free fresh other-code) refl
@@ -69,25 +74,29 @@ mumbling-refused h = clash (h .int-with-code free fresh other-code) refl
     other-code z = omega arith
 
 pub hasty-loses : NoStatusLost hasty → ⊥
-unfolding everything hasty W.changed isReset isCommand isDisconnect readsAt raised H.history H.noted H.run
+unfolding everything hasty W.changed isReset isCommand isDisconnect readsAt raised H.history H.noted run
 hasty-loses h = lost (h .orderly (time 0 ∷ []) (unreadAt 0))
   where
     lost : Orderly 0x16 H.unread (H.raises 0x42 ∷ []) → ⊥
     lost o = elim o [ ]
 
 pub peeking-hides : NoStatusLost peeking → ⊥
-unfolding everything peeking W.changed isReset isCommand isDisconnect readsAt raised H.history H.noted H.run
+unfolding everything peeking W.changed isReset isCommand isDisconnect readsAt raised H.history H.noted run
 peeking-hides h = let e : H.nothing ≡ H.unread = h .pending-is-owed (auxiliary ∷ []) (unreadAt 0) in absurd-owed e
   where
     absurd-owed : H.nothing ≡ H.unread → ⊥
     absurd-owed e = let z : _≡_ {A = ℕ} 0 1 = cc in omega arith
 
 pub mumbling-lies : NoStatusLost mumbling → ⊥
-unfolding everything mumbling W.changed isReset isCommand isDisconnect readsAt raised H.history H.noted H.run
+unfolding everything mumbling W.changed isReset isCommand isDisconnect readsAt raised H.history H.noted run
 mumbling-lies h = let z : _≡_ {A = ℕ} 0x85 0x00 = h .code-is-last (free ∷ []) fresh in omega arith
 
+pub misnames-lies : NoStatusLost misnames → ⊥
+unfolding everything misnames isReset isCommand isDisconnect readsAt raised H.history H.noted run
+misnames-lies h = let z : _≡_ {A = ℕ} 0x16 0x00 = h .code-is-last (register 1 0 ∷ []) (setPointer 0x18 fresh) in omega arith
+
 pub forgetful-stale : NoStatusLost forgetful → ⊥
-unfolding everything forgetful isReset isCommand isDisconnect readsAt raised H.history H.noted H.run
+unfolding everything forgetful isReset isCommand isDisconnect readsAt raised H.history H.noted run
 forgetful-stale h = stale (h .orderly (register 0 0 ∷ []) (unreadAt 0x17))
   where
     stale : Orderly 0x16 H.unread (H.reads 0x00 ∷ []) → ⊥
@@ -117,11 +126,11 @@ hurried-ends h =
     clash refl (ap isInterrupt (h .complete free filled 0x41 (B.brings-unread (B.cuts-info refl refl refl refl) refl)))
 
 pub meddling-refused : EndingsBegun meddling → ⊥
-unfolding everything meddling W.changed H.run
+unfolding everything meddling W.changed run
 meddling-refused h = since-began (λ c s b. time-ends-nothing b) (h .begun (free ∷ []) 0x42 refl)
 
 pub mistaken-refused : CodesOnlyBy mistaken → ⊥
-unfolding everything mistaken W.changed isReset isCommand raised H.run
+unfolding everything mistaken W.changed isReset isCommand raised run
 mistaken-refused h =
     let z : _≡_ {A = ℕ} 5 4 = ap kind (h .by-time (pointer 1 0x18 ∷ register 1 0x07 ∷ []) answer (record { raises = refl; code = refl }) .1) in
     omega arith
@@ -135,11 +144,11 @@ unfolding isSelection
 answered-since = since-last auxiliary (λ b. clash (b .command) refl) (λ n. clash refl (n .1))
 
 pub deaf-refused : SelectionsBegun deaf → ⊥
-unfolding everything deaf W.changed H.run
+unfolding everything deaf W.changed run
 deaf-refused h = answered-since (h .begun callsAnswered refl)
 
 pub deaf-times-out : CodesOnlyBy deaf → ⊥
-unfolding everything deaf W.changed isReset isCommand raised H.run
+unfolding everything deaf W.changed isReset isCommand raised run
 deaf-times-out h = answered-since (h .unanswered callsAnswered (time 1) (record { raises = refl; code = refl }))
 
 -- an ending
@@ -167,14 +176,14 @@ callsEnding = callsFilled ++ (request 4 0 0 ∷ [])
 
 -- the states that they lead to
 abbrev sent : State
-sent = after callsFilled fresh
+sent = run step callsFilled fresh
 
 abbrev held : State
-held = after callsEnding fresh
+held = run step callsEnding fresh
 
 -- .. with the pointer at a
 abbrev heldAt : ℕ → State
-heldAt a = after (callsEnding ++ (pointer 1 a ∷ [])) fresh
+heldAt a = run step (callsEnding ++ (pointer 1 a ∷ [])) fresh
 
 no-last : (n : ℕ) → ReadsLast (time n) held → ⊥
 unfolding readsAt
@@ -188,7 +197,7 @@ unfolding everything drops W.instead isDropped isReset isDisconnect isCommand
 drops-refused h = clash (ap isEnding (h .stays (time 1) held refl refl (no-last 1))) refl
 
 pub drops-loses : NoStatusLost drops → ⊥
-unfolding everything drops W.instead isReset isDisconnect isCommand readsAt raised H.history H.noted H.run
+unfolding everything drops W.instead isReset isDisconnect isCommand readsAt raised H.history H.noted run
 drops-loses h = nothing-coming (h .pending-is-owed (callsEnding ++ (time 1 ∷ [])) fresh)
 
 pub renames-refused : EndingStays renames → ⊥
@@ -199,7 +208,7 @@ renames-refused h = other-code (h .stays (time 1) held refl refl (no-last 1))
     other-code e = let z : _≡_ {A = ℕ} 0x42 0x4C = cc in omega arith
 
 pub renames-lies : NoStatusLost renames → ⊥
-unfolding everything renames W.instead isReset isDisconnect isCommand readsAt raised H.history H.noted H.run
+unfolding everything renames W.instead isReset isDisconnect isCommand readsAt raised H.history H.noted run
 renames-lies h = other-code (h .pending-is-owed (callsEnding ++ (time 1 ∷ [])) fresh)
   where
     other-code : H.coming 0x42 ≡ H.coming 0x4C → ⊥
@@ -208,7 +217,7 @@ renames-lies h = other-code (h .pending-is-owed (callsEnding ++ (time 1 ∷ []))
 pub spills-refused : EndingStays spills → ⊥
 unfolding everything spills W.instead isDropped isReset isDisconnect isCommand isDataRead
 spills-refused h =
-    let z : _≡_ {A = ℕ} 0 1 = ap (λ (q : Fifo). q .held) (h .bytes-stay (time 1) held refl refl refl refl) in omega arith
+    let z : _≡_ {A = ℕ} 0 1 = ap (λ (q : Fifo). waits q) (h .bytes-stay (time 1) held refl refl refl refl) in omega arith
 
 pub shrugs-refused : EndingIsStill shrugs → ⊥
 unfolding everything shrugs W.instead
@@ -229,17 +238,17 @@ blanks-refused h = other-byte (h .reads-oldest (register 0 0) (heldAt 0x19) refl
     other-byte e = let z : _≡_ {A = ℕ} 0 0x5A = cc in omega arith
 
 pub eats-refused : EndingStays eats → ⊥
-unfolding everything eats B.wants B.expects B.expectsBody B.stage B.isSpent
+unfolding everything eats B.wants B.expects B.expectsBody B.isSpent
 eats-refused h =
     let o : B.Offered 4 0 0 UnspecifiedOut sent = record { good = refl; phase = refl; quiet = refl; connected = refl; released = refl } in
     let z : _≡_ {A = ℕ} 0 1 =
-    ap (λ (q : Fifo). q .held) (h .begins-keeps (request 4 0 0) sent 0x4C (B.surprises o refl refl refl) refl .bytes) in
+    ap (λ (q : Fifo). waits q) (h .begins-keeps (request 4 0 0) sent 0x4C (B.surprises o refl refl refl) refl .bytes) in
     omega arith
 
 pub hollows-refused : EndingStays hollows → ⊥
 unfolding everything hollows W.instead isDisconnect isCommand
 hollows-refused h =
-    let z : _≡_ {A = ℕ} 1 0 = ap (λ (q : Fifo). q .held) (h .dropped-whole (register 1 0x04) (heldAt 0x18) refl refl .bytes) in omega arith
+    let z : _≡_ {A = ℕ} 1 0 = ap (λ (q : Fifo). waits q) (h .dropped-whole (register 1 0x04) (heldAt 0x18) refl refl .bytes) in omega arith
 
 no-last-look : ReadsLast auxiliary held → ⊥
 unfolding readsAt

@@ -20,31 +20,30 @@ use Rattle.chip.specs.Lines.{codeOf, isSingle, qualifies}
 use Rattle.chip.specs.Fifo.{isEmpty, front, pop, waits}
 use Rattle.chip.specs.State.{setFifo}
 use Rattle.chip.specs.Answers.{done, noDataNow}
-use Rattle.chip.specs.TransferInfo.{dbr}
-use Rattle.chip.specs.Count.{loaded}
-use Rattle.chip.specs.Interrupts.{isInterrupt, isEnding, busy, isRunning, interrupt, endingWith, raise, outgoingDropped, withoutOutgoing, settled, settledBy, unread, isIncoming}
+use Rattle.chip.specs.Count.{dbr, loaded}
+use Rattle.chip.specs.Interrupts.{isInterrupt, isEnding, busy, interrupt, endingWith, raise, outgoingDropped, withoutOutgoing, settled, settledBy, bytesUnread, isIncoming}
+use Rattle.chip.specs.Running.{isRunning, isSelectAndTransfer}
 use Rattle.chip.specs.SelectAndTransfer.{resumed, isResumable, isEarly, isMiddle, isAtEnd}
-use Rattle.chip.specs.Commands.{isConnected, isWaiting, isReady, isValid, isRefusedBusy, entryOf, table, aborted, transferring, carriedOut, accepted, commanded, abortPhase}
+use Rattle.chip.specs.Commands.{isReady, isValid, isRefusedBusy, entryOf, table, aborted, selectAndTransferBegun, carriedOut, accepted, commanded, abortPhase}
+use Rattle.chip.specs.Connections.{isConnected, isWaiting, isSelecting}
 use Rattle.chip.specs.Registers as R
 use Rattle.chip.specs.Events as E
-use Rattle.chip.specs.Events.{isTransfer}
 use Rattle.chip.specs.Calls.{Call, Outcome, block, time, answer, reselection, isGood, isSet, plain, step, carried}
 use Rattle.chip.specs.declared.State.{State}
 use Rattle.chip.specs.declared.Fifo.{Fifo}
 use Rattle.chip.specs.declared.Reply.{Reply}
 use Rattle.chip.specs.declared.Running.{Running}
-use Rattle.chip.specs.declared.Connection.{Connection}
-use Rattle.chip.specs.declared.Connection.the-variants.{Disconnected, Selecting, Waiting, Connected}
+use Rattle.chip.specs.declared.Connection.the-variants.{Selecting, Connected}
 use Rattle.chip.specs.declared.Direction.{Direction}
 use Rattle.chip.specs.declared.Direction.the-variants.{Unfixed, In, Out}
 use Rattle.chip.specs.declared.Pending.{Pending}
 use Rattle.chip.specs.declared.Pending.the-variants.{Nothing, Interrupt, Ending, ReadOut}
 use Rattle.unread.specs.Status.{isCommand, readsAt}
 use Rattle.unread.specs.Because.{Quiet, ReadsLast, byte, slice}
-use Rattle.chip.proofs.Cases.{by-test}
-use Rattle.unread.proofs.Choosing.{taken, passed-over, clash, second-fails, one-of}
-use Rattle.unread.proofs.Telling.{standing}
-use Rattle.unread.proofs.Host.{some-wait, holds-some, one-less}
+use Rattle.chip.proofs.Cases.{by-test, taken, passed-over}
+use Rattle.unread.proofs.Choosing.{clash, second-fails, one-of}
+use Rattle.unread.proofs.Telling.{summary}
+use Rattle.chip.proofs.FifoLaws.{some-waits, waits-some, pop-less}
 use Rattle.unread.proofs.Told.{good-step, Issued, issued, Reading, reading}
 use Rattle.unread.proofs.Asked.{seen, shown, Raised, Load, load, Ended, raised-by, ended-by, open-event}
 
@@ -58,7 +57,7 @@ stepped-raised c s a r e h = rw e (record { code = h .code; int = h .int })
 
 stepped-ended : (c : Call) (s : State) {k : ℕ} {w : Bool} {v : Load} (a : ℕ) (r : Reply) → step c s ≡ plain (R.stepped a r)
     → Ended k w v (r .state) → Ended k w v (step c s .state)
-unfolding R.stepped unread
+unfolding R.stepped bytesUnread
 stepped-ended c s a r e h =
     record {
       raised-now = λ f. stepped-raised c s a r e (h .raised-now f);
@@ -89,8 +88,8 @@ module _ (c : Call) (s : State) (q : Quiet s) where
     abort-taken b e = taken-command b (rw e) (rw (e, abort-kept)) (rw (e, abort-valid)) ∙ rw e
 
     pub aborts-connected-row : isCommand 0x01 c s ≡ true → s .wire .connection ≡ Connected
-        → Ended (0x28 + phaseNumber (abortPhase (s .wire .last))) (unread s) (load s) (step c s .state)
-    unfolding aborted accepted unread
+        → Ended (0x28 + phaseNumber (abortPhase (s .wire .seen .last))) (bytesUnread s) (load s) (step c s .state)
+    unfolding aborted accepted bytesUnread
     aborts-connected-row e x =
         let h : Issued 0x01 c s = issued 0x01 c s e in
         stepped-ended c s 0x18 _ (h .leaves)
@@ -125,7 +124,7 @@ module _ (c : Call) (s : State) (q : Quiet s) where
         stepped-raised c s 0x18 _ (h .leaves)
         (rw (refused-command (h .byte) (rw (h .code, n)) (rw (h .code, v))) (record { code = refl; int = refl }))
 
-    module _ (x : s .wire .connection ≡ Connected) (p : s .registers .phase ≡ 0x60) where
+    module _ (x : s .wire .connection ≡ Connected) (p : s .registers .descriptor .phase ≡ 0x60) where
       resumable : isResumable s ≡ true
       unfolding isResumable isEarly isMiddle isAtEnd either pick
       resumable = rw p
@@ -134,8 +133,8 @@ module _ (c : Call) (s : State) (q : Quiet s) where
       unfolding isValid isReady entryOf table both either pick
       resume-valid k w = one-of (λ (j : ℕ). isValid j s ≡ true) 0x08 0x09 k w (rw (resumable, x)) (rw (resumable, x))
 
-      resume-raises : (r : Running) (b : ℕ) → Ended 0x16 false (load (loaded s)) (transferring r (accepted b s))
-      unfolding transferring resumed loaded accepted unread both
+      resume-raises : (r : Running) (b : ℕ) → Ended 0x16 false (load (loaded s)) (selectAndTransferBegun r (accepted b s))
+      unfolding selectAndTransferBegun resumed loaded accepted bytesUnread both
       resume-raises r b = ended-by _ (ap seen (taken _ _ (ap isConnected x) ∙ taken _ _ (eq-eqb _ _ p))) refl
 
       -- what 08 and 09 do
@@ -155,40 +154,33 @@ module _ (c : Call) (s : State) (q : Quiet s) where
 -- events
 
 pub times-out-row : (n : ℕ) (s : State) → isGood (time n) ≡ true → Quiet s → s .wire .connection ≡ Selecting
-    → eqb (s .registers .timeout) 0 ≡ false → leb (s .registers .timeout) (s .wire .elapsed + n) ≡ true
+    → eqb (s .registers .setup .timeout) 0 ≡ false → leb (s .registers .setup .timeout) (s .wire .elapsed + n) ≡ true
     → Raised 0x42 (step (time n) s .state)
 unfolding carried E.passed E.selectionTime E.timedOut
 times-out-row n s g q x t l =
     raised-by _
     (ap (λ (o : Outcome). seen (o .state)) (good-step (time n) s g)
     ∙ ap shown
-    (passed-over _ _ (ap isEnding q) ∙ ap (λ (c : Connection). E.passedBy c n s) x ∙ passed-over _ _ (ap isInterrupt q) ∙ passed-over _ _ t
+    (passed-over _ _ (ap isEnding q) ∙ taken _ _ (ap isSelecting x) ∙ passed-over _ _ (ap isInterrupt q) ∙ passed-over _ _ t
     ∙ taken _ _ l))
 
-pub answers-row : (s : State) → Quiet s → s .wire .connection ≡ Selecting → isTransfer (s .transfer .running) ≡ false
+pub answers-row : (s : State) → Quiet s → s .wire .connection ≡ Selecting → isSelectAndTransfer (s .transfer .running) ≡ false
     → Raised 0x11 (step answer s .state)
 unfolding carried E.answered E.answeredSelecting
 answers-row s q x t =
     raised-by _
     (ap (λ (o : Outcome). seen (o .state)) (good-step answer s (unfold isGood in refl))
     ∙ ap shown
-    (ap (λ (c : Connection). E.answeredBy c s) x ∙ passed-over _ _ (ap isEnding q) ∙ passed-over _ _ t ∙ open-event s _ q))
+    (taken _ _ (ap isSelecting x) ∙ passed-over _ _ (ap isEnding q) ∙ passed-over _ _ t ∙ open-event s _ q))
 
 pub reselects-row : (lines : ℕ) (s : State) → isGood (reselection lines) ≡ true → Quiet s → qualifies lines s ≡ true
     → isConnected (s .wire .connection) ≡ false → both (isWaiting (s .wire .connection)) (E.namesTarget lines s) ≡ false
     → Raised 0x80 (step (reselection lines) s .state)
-unfolding carried E.reselected E.reselectedLoud E.reselectedWaiting
+unfolding carried E.reselected E.reselectedWithCode E.reselectedApart
 reselects-row lines s g q f x w =
     raised-by _
     (ap (λ (o : Outcome). seen (o .state)) (good-step (reselection lines) s g)
-    ∙ ap shown (taken _ _ f ∙ by-connection (s .wire .connection) x w ∙ open-event s _ q))
-  where
-    by-connection : (c : Connection) → isConnected c ≡ false → both (isWaiting c) (E.namesTarget lines s) ≡ false
-        → E.reselectedBy c lines s ≡ E.reselectedLoud lines s
-    by-connection Disconnected x w = passed-over _ _ (ap isEnding q)
-    by-connection Selecting x w = passed-over _ _ (ap isEnding q)
-    by-connection Waiting x w = passed-over _ _ (ap isEnding q) ∙ passed-over _ _ (unfold both in w)
-    by-connection Connected x w = clash refl x
+    ∙ ap shown (taken _ _ f ∙ passed-over _ _ x ∙ passed-over _ _ (ap isEnding q) ∙ passed-over _ _ w ∙ open-event s _ q))
 
 -- reads
 
@@ -262,18 +254,18 @@ block-empties : (l : List ℕ) (s : State) → isIncoming (s .transfer .directio
 unfolding R.blockRead
 block-empties [] s d v u = absurd (omega arith)
 block-empties (x ∷ l) s d v u =
-    rw (data-read s d (holds-some (s .fifo) v))
+    rw (data-read s d (waits-some (s .fifo) v))
     (by-test (isEmpty (pop (s .fifo))) (last-empties l s)
     (λ z. rw (more-settles s z)
     (earlier-empties
-    (block-empties l (setFifo (pop (s .fifo)) s) d (some-wait _ z) (omega (arith, one-less (s .fifo) (holds-some (s .fifo) v)))))))
+    (block-empties l (setFifo (pop (s .fifo)) s) d (some-waits _ z) (omega (arith, pop-less (s .fifo) (waits-some (s .fifo) v)))))))
 
 -- .. of an ending with k
 emptied-ends : {k : ℕ} {s t : State} → Emptied s t → s .status .pending ≡ Ending k → Ended k false (load s) t
-unfolding settledBy endingWith unread
+unfolding settledBy endingWith bytesUnread
 emptied-ends {k} {s} (emptied q e l) p =
     let u : State = setFifo q s in
-    let f : unread u ≡ false = second-fails _ _ (rw e) in
+    let f : bytesUnread u ≡ false = second-fails _ _ (rw e) in
     let h = ended-by u (ap seen (l ∙ ap (λ (x : Pending). settledBy x u) p ∙ sym (passed-over _ _ f))) f in
     record { raised-now = h .raised-now; all-read = h .all-read; read-first = h .read-first; kept = λ z. clash z refl }
 
@@ -288,7 +280,7 @@ slice-row m l s k g f d v u p =
 data-empties : (s : State) → isIncoming (s .transfer .direction) ≡ true → waits (s .fifo) ≡ 1 → Emptied s (R.dataRead s .state)
 unfolding R.blockRead
 data-empties s d w =
-    let e = data-read s d (holds-some (s .fifo) (omega arith)) in
+    let e = data-read s d (waits-some (s .fifo) (omega arith)) in
     rw e (rw e at (block-empties (0 ∷ []) s d (omega arith) (omega arith)))
 
 pub data-reachable : (b : ℕ) (s : State) → R.accessedAt 0x19 false b s ≡ R.dataRead s
@@ -302,11 +294,11 @@ byte-row c s k e d w p =
     stepped-ended c s 0x19 _ (h .gives) (rw (data-reachable (h .byte) s) (emptied-ends (data-empties s d w) p))
 
 -- the read of the last byte, in the words of what stands then
-emptied-stands : {s t : State} → Emptied s t → (q : Fifo) × (standing t ≡ standing (settledBy (s .status .pending) (setFifo q s)))
-emptied-stands (emptied q e l) = (q, ap standing l)
+emptied-stands : {s t : State} → Emptied s t → (q : Fifo) × (summary t ≡ summary (settledBy (s .status .pending) (setFifo q s)))
+emptied-stands (emptied q e l) = (q, ap summary l)
 
 pub last-stands : {c : Call} {s : State} → ReadsLast c s
-    → (q : Fifo) × (standing (step c s .state) ≡ standing (settledBy (s .status .pending) (setFifo q s)))
+    → (q : Fifo) × (summary (step c s .state) ≡ summary (settledBy (s .status .pending) (setFifo q s)))
 unfolding R.stepped carried
 last-stands (byte {c} {s} e d w) =
     let h : Reading 0x19 c s = reading 0x19 c s e in
@@ -315,12 +307,12 @@ last-stands (slice {m} {l} {s} g f d v u) =
     rw (good-step (block m l) s g, passed-over (R.blockWritten l s) (R.blockRead l s) f) (emptied-stands (block-empties l s d v u))
 
 -- .. and no byte is unread
-emptied-unread : {s t : State} → Emptied s t → unread t ≡ false
-unfolding unread
+emptied-unread : {s t : State} → Emptied s t → bytesUnread t ≡ false
+unfolding bytesUnread
 emptied-unread {s} (emptied q e l) = second-fails _ _ (rw (l, settled-empty (s .status .pending) (setFifo q s) e))
 
-pub last-unread : {c : Call} {s : State} → ReadsLast c s → unread (step c s .state) ≡ false
-unfolding R.stepped carried unread
+pub last-unread : {c : Call} {s : State} → ReadsLast c s → bytesUnread (step c s .state) ≡ false
+unfolding R.stepped carried bytesUnread
 last-unread (byte {c} {s} e d w) =
     let h : Reading 0x19 c s = reading 0x19 c s e in
     rw (h .gives, data-reachable (h .byte) s) (emptied-unread (data-empties s d w))

@@ -1,5 +1,5 @@
 -- What one call does to the code at 17h, to what is pending and to a selection, and the leaves of the walk that shows it of every call.
---   Standing standing  of a state: the code, what is pending, the connection, the running command
+--   Summary summary    of a state: the code, what is pending, the connection, the running command
 --   Settles c s q x    the call c, made in s, settles what was pending: q is pending then, with the connection x
 --   settles-quiet settles-apart settles-plain   .. there was no INT, no selection runs, and no code is to come
 --   read-out-quiet     where the read-out begins, nothing was pending
@@ -10,14 +10,16 @@
 --   ended              an ending, by whether bytes are unread then
 --   brought            .. with a code of the table
 --   quiet-of           neither INT nor an ending: nothing is pending
---   isPlain isSelecting   neither INT nor a code pending; a selection runs
+--   isPlain            neither INT nor a code pending
 --   plain-int cleared-int  .. no INT then, nor after a read of 17h
---   is-connected connected-apart is-disconnected   the tests for connected and Disconnected
+--   connected-apart    connected, no selection runs
 use mathlib.Core.Path.{_≡_, refl, ap}
 use mathlib.Core.Bool.{Bool, true, false}
 use Prim.Native.Nat.{ℕ}
-use Rattle.chip.specs.Interrupts.{interrupted, isInterrupt, isEnding, withoutInterrupt, isRunning, busy, endingWith, raise, outgoingDropped, unread, unlessInterrupt}
-use Rattle.chip.specs.Commands.{isConnected, isDisconnected}
+use Rattle.chip.specs.Interrupts.{interrupted, isInterrupt, isEnding, withoutInterrupt, busy, endingWith, raise, outgoingDropped, bytesUnread, unlessInterrupt}
+use Rattle.chip.specs.Running.{isRunning}
+use Rattle.chip.specs.Connections.{isConnected, isSelecting}
+use Rattle.chip.specs.Commands.{resetCode}
 use Rattle.chip.specs.Calls.{Call}
 use Rattle.chip.specs.declared.State.{State}
 use Rattle.chip.specs.declared.Reply.{Reply}
@@ -25,11 +27,12 @@ use Rattle.chip.specs.declared.Pending.{Pending}
 use Rattle.chip.specs.declared.Pending.the-variants.{Nothing, Interrupt, Ending, ReadOut}
 use Rattle.chip.specs.declared.Running.{Running}
 use Rattle.chip.specs.declared.Connection.{Connection}
-use Rattle.chip.specs.declared.Connection.the-variants.{Disconnected, Selecting, Waiting, Connected}
+use Rattle.chip.specs.declared.Connection.the-variants.{Disconnected, Selecting, Waiting}
 use Rattle.unread.specs.Status.{isReset, isSelection, isDisconnect, isAnswer, readsAt}
 use Rattle.unread.specs.Because as B
 use Rattle.unread.specs.Because.{Quiet, Brings, Begins, BeginsReadOut, ReadsLast, Because, brings-unread, brings}
 use Rattle.chip.proofs.Cases.{by-case}
+use Rattle.chip.proofs.Numbers.{is-connected}
 use Rattle.unread.proofs.Choosing.{clash}
 
 -- neither INT nor an ending that has a code
@@ -39,20 +42,14 @@ isPlain Interrupt = false
 isPlain (Ending k) = false
 isPlain ReadOut = true
 
-abbrev pub isSelecting : Connection → Bool
-isSelecting Disconnected = false
-isSelecting Selecting = true
-isSelecting Waiting = false
-isSelecting Connected = false
-
-pub record Standing : Type 0 where
+pub record Summary : Type 0 where
   pub code : ℕ
   pub pending : Pending
   pub connection : Connection
   pub running : Running
 
-abbrev pub standing : State → Standing
-standing t =
+abbrev pub summary : State → Summary
+summary t =
     record { code = t .status .code; pending = t .status .pending; connection = t .wire .connection; running = t .transfer .running }
 
 -- where a call that raises a code leaves a selection: it is over, or it was none
@@ -66,9 +63,9 @@ pub data Settles (c : Call) (s : State) : Pending → Connection → Type 0 wher
   reads-out : BeginsReadOut c s → Settles c s ReadOut Disconnected
   has-read : s .status .pending ≡ ReadOut → ReadsLast c s → Settles c s Nothing Waiting
 
-pub data Tells (c : Call) (s : State) : Standing → Type 0 where
+pub data Tells (c : Call) (s : State) : Summary → Type 0 where
   -- all four as they were; no Answer that a sound selection would have taken
-  silent : (Quiet s → isAnswer c ≡ false) → Tells c s (standing s)
+  silent : (Quiet s → isAnswer c ≡ false) → Tells c s (summary s)
   -- the connection or the command moves, and no selection runs
   moves : {x : Connection} {r : Running} → isSelecting x ≡ false
       → Tells c s (record { code = s .status .code; pending = s .status .pending; connection = x; running = r })
@@ -95,12 +92,12 @@ pub data Tells (c : Call) (s : State) : Standing → Type 0 where
       })
   -- Reset
   resets : {x : Connection} {r : Running} → isReset c s ≡ true → isSelecting x ≡ false
-      → Tells c s (record { code = 0; pending = Interrupt; connection = x; running = r })
+      → Tells c s (record { code = resetCode s; pending = Interrupt; connection = x; running = r })
 
 pub record ToldState (c : Call) (s t : State) : Type 0 where
-  pub tells : Tells c s (standing t)
+  pub tells : Tells c s (summary t)
 
-pub so : {c : Call} {s t : State} → Tells c s (standing t) → ToldState c s t
+pub so : {c : Call} {s t : State} → Tells c s (summary t) → ToldState c s t
 so h = record { tells = h }
 
 abbrev pub ToldReply : Call → State → Reply → Type 0
@@ -143,18 +140,6 @@ quiet-of Interrupt i e = clash refl i
 quiet-of (Ending k) i e = clash refl e
 quiet-of ReadOut i e = clash refl e
 
-pub is-connected : (x : Connection) → isConnected x ≡ true → x ≡ Connected
-is-connected Disconnected e = clash e refl
-is-connected Selecting e = clash e refl
-is-connected Waiting e = clash e refl
-is-connected Connected e = refl
-
-pub is-disconnected : (x : Connection) → isDisconnected x ≡ true → x ≡ Disconnected
-is-disconnected Disconnected e = refl
-is-disconnected Selecting e = clash e refl
-is-disconnected Waiting e = clash e refl
-is-disconnected Connected e = clash e refl
-
 pub connected-apart : (x : Connection) → isConnected x ≡ true → isSelecting x ≡ false
 connected-apart x e = ap isSelecting (is-connected x e)
 
@@ -164,10 +149,10 @@ module _ {c : Call} {s : State} where
   unless-int r h = by-case (ToldReply c s) _ (λ i. so (silent (λ q. clash i (ap isInterrupt q)))) h
 
   pub ended : {k : ℕ} (t : State) → t .status .code ≡ s .status .code → isSelecting (t .wire .connection) ≡ false → Quiet s
-      → (unread t ≡ true → Begins c s k) → (unread t ≡ false → Because c s k) → ToldState c s (endingWith k t)
+      → (bytesUnread t ≡ true → Begins c s k) → (bytesUnread t ≡ false → Because c s k) → ToldState c s (endingWith k t)
   unfolding endingWith raise outgoingDropped
   ended t e z q x y = by-case (ToldState c s) _ (λ w. so (rw e (begins q (x w) z))) (λ w. so (raises (rw q) (y w) (gone z)))
 
   pub brought : {k : ℕ} (t : State) → t .status .code ≡ s .status .code → isSelecting (t .wire .connection) ≡ false
-      → unread t ≡ unread s → Quiet s → Brings c s k → ToldState c s (endingWith k t)
+      → bytesUnread t ≡ bytesUnread s → Quiet s → Brings c s k → ToldState c s (endingWith k t)
   brought t e z u q h = ended t e z q (λ w. brings-unread h (rw (← u) w)) (λ w. brings h (rw (← u) w))

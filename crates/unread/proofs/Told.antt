@@ -17,7 +17,8 @@ use borrow.Author.Tests.{eqb-true, not-true}
 use Rattle.chip.specs.Choice.{pick, both, either}
 use Rattle.chip.specs.Lines.{codeOf}
 use Rattle.chip.specs.Interrupts.{interrupted, busy, withoutInterrupt}
-use Rattle.chip.specs.Commands.{isConnected, isReady, isValid, entryOf, table, isRefusedBusy, accepted, disconnected, carriedOut, commanded, reset}
+use Rattle.chip.specs.Commands.{isReady, isValid, entryOf, table, isRefusedBusy, accepted, disconnected, carriedOut, commanded, reset, resetCode}
+use Rattle.chip.specs.Connections.{isConnected}
 use Rattle.chip.specs.Answers.{done}
 use Rattle.chip.specs.Registers as R
 use Rattle.chip.specs.Calls.{Call, Outcome, pointer, auxiliary, register, block, time, answer, reselection, request, free, isGood, isSet, plain, step, carried}
@@ -106,7 +107,7 @@ issued k (request p b q) s e = clash e refl
 issued k free s e = clash e refl
 
 pub reset-told : (c : Call) (s : State) → isReset c s ≡ true
-    → (step c s .state .status .code ≡ 0x00) × (step c s .state .status .pending ≡ Interrupt)
+    → (step c s .state .status .code ≡ resetCode s) × (step c s .state .status .pending ≡ Interrupt)
 unfolding isReset commanded reset R.stepped pick
 reset-told c s e =
     let h : Issued 0x00 c s = issued 0x00 c s e in

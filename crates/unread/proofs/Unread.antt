@@ -19,11 +19,11 @@ use Rattle.unread.specs.Status.{isReset, readsAt, raised}
 use Rattle.unread.specs.Unread.{UnreadStatusKept, CodeMovesOnlyByRaising}
 use Rattle.chip.proofs.Cases.{by-test, both-first, both-second}
 use Rattle.unread.proofs.Choosing.{clash}
-use Rattle.unread.proofs.Telling.{settles-quiet, Standing, Tells, silent, moves, selects, settles, begins, raises, reads, resets}
+use Rattle.unread.proofs.Telling.{settles-quiet, Summary, Tells, silent, moves, selects, settles, begins, raises, reads, resets}
 use Rattle.unread.proofs.Told.{told, reset-told}
 
 module _ {c : Call} {s : State} where
-  code-stays : {z : Standing} → Tells c s z → interrupted s ≡ true → isReset c s ≡ false → z .code ≡ s .status .code
+  code-stays : {z : Summary} → Tells c s z → interrupted s ≡ true → isReset c s ≡ false → z .code ≡ s .status .code
   code-stays (silent a) i r = refl
   code-stays (moves x) i r = refl
   code-stays (selects e q x b n) i r = refl
@@ -33,7 +33,7 @@ module _ {c : Call} {s : State} where
   code-stays (reads e a) i r = refl
   code-stays (resets e x) i r = clash e r
 
-  int-stays : {z : Standing} → Tells c s z → interrupted s ≡ true → readsAt 0x17 c s ≡ false → isInterrupt (z .pending) ≡ true
+  int-stays : {z : Summary} → Tells c s z → interrupted s ≡ true → readsAt 0x17 c s ≡ false → isInterrupt (z .pending) ≡ true
   int-stays (silent a) i r = i
   int-stays (moves x) i r = i
   int-stays (selects e q x b n) i r = i
@@ -43,7 +43,7 @@ module _ {c : Call} {s : State} where
   int-stays (reads e a) i r = clash e r
   int-stays (resets e x) i r = refl
 
-  int-with : {z : Standing} → Tells c s z → (z .code ≡ s .status .code → ⊥) → isInterrupt (z .pending) ≡ true
+  int-with : {z : Summary} → Tells c s z → (z .code ≡ s .status .code → ⊥) → isInterrupt (z .pending) ≡ true
   int-with (silent a) n = absurd (n refl)
   int-with (moves x) n = absurd (n refl)
   int-with (selects e q x b m) n = absurd (n refl)

@@ -11,16 +11,14 @@
 --   isIdle r             no command that Requests are for: none runs, or one that only selects
 --   Offered n b m p s    the Request n b m, of phase p, comes to the running command
 --   LastMessage n b m s  .. is the last Message In byte of a Transfer Info
---   stage s              what the phase register of the running Select-And-Transfer stands for
 --   expects g p b s      at the stage g a Request of phase p with the byte b is expected (expectsBody, expectsLate: two stages of it)
 --   isBeforeStatus g     the stage g is one that takes the messages 02 and 04
 --   wants p b s          the running command wants it: a byte of it would cross, were there room or a byte
 --   fits p s             there is room for a byte of phase p
 --   halts m s            with the parity m a byte that would be taken in is not: it halts the transfer
 --   isSpent s            no Select-And-Transfer runs, and no byte is left
---   isOut d              the direction d is out
 use mathlib.Core.Path.{_≡_}
-use mathlib.Core.Bool.{Bool, true, false, not}
+use mathlib.Core.Bool.{Bool, true, false, not, _||_}
 use mathlib.Core.List.{List}
 use mathlib.Core.Logic.{_⊎_}
 use Prim.Native.Nat.{ℕ, _+_, _<_, _≤_}
@@ -31,20 +29,20 @@ use Rattle.chip.specs.Phases.{phaseOf, phaseNumber, comesIn, samePhase, isNoted
 use Rattle.chip.specs.Lines.{hsp, idi, identify, lunOf, qualifies}
 use Rattle.chip.specs.Fifo.{waits, hasRoom}
 use Rattle.chip.specs.Count.{noneLeft, isLast}
-use Rattle.chip.specs.Interrupts.{isRunning, isIncoming, unread}
-use Rattle.chip.specs.SelectAndTransfer.{stageOf, size}
-use Rattle.chip.specs.Commands.{isConnected, isWaiting, isValid, abortPhase}
-use Rattle.chip.specs.Events.{isTransfer, setsAtn, namesTarget}
+use Rattle.chip.specs.Interrupts.{isIncoming, isOutgoing, bytesUnread}
+use Rattle.chip.specs.Running.{isRunning, isSelectAndTransfer, isTransferInfo}
+use Rattle.chip.specs.SelectAndTransfer.{stage}
+use Rattle.chip.specs.Commands.{isValid, abortPhase, resetCode}
+use Rattle.chip.specs.Connections.{isConnected, isWaiting}
+use Rattle.chip.specs.Events.{namesTarget}
 use Rattle.chip.specs.Calls.{Call, Outcome, block, time, answer, reselection, request, free, isGood, isSet}
 use Rattle.chip.specs.declared.State.{State}
 use Rattle.chip.specs.declared.Stage.{Stage}
 use Rattle.chip.specs.declared.Stage.the-variants.{SendIdentify, SendCommand, Body, AfterData, Disconnecting, Reselected, AfterStatus, Elsewhere}
 use Rattle.chip.specs.declared.Running.{Running}
-use Rattle.chip.specs.declared.Running.the-variants.{Idle, SelectWithAtn, SelectWithoutAtn, TransferWithAtn, TransferWithoutAtn, TransferInfo}
+use Rattle.chip.specs.declared.Running.the-variants.{TransferInfo}
 use Rattle.chip.specs.declared.Pending.the-variants.{Nothing, Ending, ReadOut}
 use Rattle.chip.specs.declared.Connection.the-variants.{Selecting, Connected}
-use Rattle.chip.specs.declared.Direction.{Direction}
-use Rattle.chip.specs.declared.Direction.the-variants.{Unfixed, In, Out}
 use Rattle.chip.specs.declared.Phase.{Phase}
 use Rattle.chip.specs.declared.Phase.the-variants.{DataOut, DataIn, CommandOut, StatusIn, UnspecifiedOut, UnspecifiedIn, MessageOut, MessageIn}
 use Rattle.unread.specs.Status.{isCommand, isReset, readsAt, raised}
@@ -55,32 +53,19 @@ abbrev pub Quiet : State → Type 0
 Quiet s = s .status .pending ≡ Nothing
 
 abbrev pub isIdle : Running → Bool
-isIdle Idle = true
-isIdle SelectWithAtn = true
-isIdle SelectWithoutAtn = true
-isIdle TransferWithAtn = false
-isIdle TransferWithoutAtn = false
-isIdle TransferInfo = false
+isIdle r = not (isSelectAndTransfer r || isTransferInfo r)
 
 pub record Offered (n b m : ℕ) (p : Phase) (s : State) : Type 0 where
   pub good : isGood (request n b m) ≡ true
   pub phase : phaseOf n ≡ p
   pub quiet : Quiet s
   pub connected : s .wire .connection ≡ Connected
-  pub released : s .wire .ack ≡ false
-
-unfoldable pub stage : State → Stage
-stage s = stageOf (setsAtn (s .transfer .running)) (s .registers .phase) (size s)
-
-abbrev pub isOut : Direction → Bool
-isOut Unfixed = false
-isOut In = false
-isOut Out = true
+  pub released : s .wire .handshake .ack ≡ false
 
 -- 3xh at the size, 41h, 45h: data in the way that is fixed, while a byte is left; Status; the messages 02 and 04
 unfoldable pub expectsBody : Phase → ℕ → State → Bool
 expectsBody DataOut b s = both (not (noneLeft s)) (not (isIncoming (s .transfer .direction)))
-expectsBody DataIn b s = both (not (noneLeft s)) (not (isOut (s .transfer .direction)))
+expectsBody DataIn b s = both (not (noneLeft s)) (not (isOutgoing (s .transfer .direction)))
 expectsBody CommandOut b s = false
 expectsBody StatusIn b s = true
 expectsBody UnspecifiedOut b s = false
@@ -111,18 +96,18 @@ expects Elsewhere p b s = false
 
 unfoldable pub wants : Phase → ℕ → State → Bool
 wants p b s =
-    pick (isTransfer (s .transfer .running)) (expects (stage s) p b s)
-    (both (isNoted p (s .wire .reported)) (not (noneLeft s)))
+    pick (isSelectAndTransfer (s .transfer .running)) (expects (stage s) p b s)
+    (both (isNoted p (s .wire .seen .reported)) (not (noneLeft s)))
 
 -- only the data of a Select-And-Transfer goes into the FIFO, and every byte of a Transfer Info
 unfoldable pub fits : Phase → State → Bool
-fits p s = either (both (isTransfer (s .transfer .running)) (not (samePhase p DataIn))) (hasRoom (s .fifo))
+fits p s = either (both (isSelectAndTransfer (s .transfer .running)) (not (samePhase p DataIn))) (hasRoom (s .fifo))
 
 unfoldable pub halts : ℕ → State → Bool
 halts m s = both (isSet m) (hsp s)
 
 unfoldable pub isSpent : State → Bool
-isSpent s = both (not (isTransfer (s .transfer .running))) (noneLeft s)
+isSpent s = both (not (isSelectAndTransfer (s .transfer .running))) (noneLeft s)
 
 abbrev pub isBeforeStatus : Stage → Bool
 isBeforeStatus SendIdentify = false
@@ -146,22 +131,22 @@ pub record LastMessage (n b m : ℕ) (s : State) : Type 0 where
 
 pub data Brings : Call → State → ℕ → Type 0 where
   -- 16h: Select-And-Transfer, Message In 00 after the status
-  completes : {n b m : ℕ} {s : State} → Offered n b m MessageIn s → isTransfer (s .transfer .running) ≡ true
+  completes : {n b m : ℕ} {s : State} → Offered n b m MessageIn s → isSelectAndTransfer (s .transfer .running) ≡ true
       → stage s ≡ AfterStatus → eqb b 0x00 ≡ true → halts m s ≡ false → Brings (request n b m) s 0x16
   -- 18h+p: Transfer Info, a Request with no byte left
   overruns : {n b m : ℕ} {p : Phase} {s : State} → Offered n b m p s → isIdle (s .transfer .running) ≡ false
       → isSpent s ≡ true → Brings (request n b m) s (0x18 + phaseNumber p)
   -- 21h: Select-And-Transfer, Message In 02 before the status
-  saves : {n b m : ℕ} {s : State} → Offered n b m MessageIn s → isTransfer (s .transfer .running) ≡ true
+  saves : {n b m : ℕ} {s : State} → Offered n b m MessageIn s → isSelectAndTransfer (s .transfer .running) ≡ true
       → isBeforeStatus (stage s) ≡ true → eqb b 0x02 ≡ true → halts m s ≡ false → Brings (request n b m) s 0x21
   -- 28h+p: Abort, connected
   aborts-connected : {c : Call} {s : State} → isCommand 0x01 c s ≡ true → Quiet s → isRunning (s .transfer .running) ≡ true
-      → s .wire .connection ≡ Connected → Brings c s (0x28 + phaseNumber (abortPhase (s .wire .last)))
+      → s .wire .connection ≡ Connected → Brings c s (0x28 + phaseNumber (abortPhase (s .wire .seen .last)))
   -- 41h: Free, bytes left in a Transfer Info; in a Select-And-Transfer elsewhere than at 42h
   cuts-info : {s : State} → Quiet s → s .wire .connection ≡ Connected → s .transfer .running ≡ TransferInfo
       → noneLeft s ≡ false → Brings free s 0x41
-  cuts-transfer : {s : State} → Quiet s → s .wire .connection ≡ Connected → isTransfer (s .transfer .running) ≡ true
-      → eqb (s .registers .phase) 0x42 ≡ false → Brings free s 0x41
+  cuts-transfer : {s : State} → Quiet s → s .wire .connection ≡ Connected → isSelectAndTransfer (s .transfer .running) ≡ true
+      → eqb (s .registers .descriptor .phase) 0x42 ≡ false → Brings free s 0x41
   -- 43h: a byte of bad parity with HSP, where it would be taken in
   spoils : {n b m : ℕ} {p : Phase} {s : State} → Offered n b m p s → isIdle (s .transfer .running) ≡ false
       → wants p b s ≡ true → comesIn p ≡ true → fits p s ≡ true → halts m s ≡ true → Brings (request n b m) s 0x43
@@ -171,18 +156,18 @@ pub data Brings : Call → State → ℕ → Type 0 where
   -- 85h: Free, no byte left in a Transfer Info; in a Select-And-Transfer at 42h with IDI
   leaves-info : {s : State} → Quiet s → s .wire .connection ≡ Connected → s .transfer .running ≡ TransferInfo
       → noneLeft s ≡ true → Brings free s 0x85
-  leaves-transfer : {s : State} → Quiet s → s .wire .connection ≡ Connected → isTransfer (s .transfer .running) ≡ true
-      → eqb (s .registers .phase) 0x42 ≡ true → idi s ≡ true → Brings free s 0x85
+  leaves-transfer : {s : State} → Quiet s → s .wire .connection ≡ Connected → isSelectAndTransfer (s .transfer .running) ≡ true
+      → eqb (s .registers .descriptor .phase) 0x42 ≡ true → idi s ≡ true → Brings free s 0x85
 
 pub data Begins : Call → State → ℕ → Type 0 where
-  brings-unread : {c : Call} {s : State} {k : ℕ} → Brings c s k → unread s ≡ true → Begins c s k
+  brings-unread : {c : Call} {s : State} {k : ℕ} → Brings c s k → bytesUnread s ≡ true → Begins c s k
   -- 20h: the last Message In byte itself is unread
   keeps-last : {n b m : ℕ} {s : State} → LastMessage n b m s → isIncoming (s .transfer .direction) ≡ true
       → Begins (request n b m) s 0x20
 
 pub data BeginsReadOut : Call → State → Type 0 where
-  leaves-unread : {s : State} → Quiet s → s .wire .connection ≡ Connected → isTransfer (s .transfer .running) ≡ true
-      → eqb (s .registers .phase) 0x42 ≡ true → idi s ≡ false → unread s ≡ true → BeginsReadOut free s
+  leaves-unread : {s : State} → Quiet s → s .wire .connection ≡ Connected → isSelectAndTransfer (s .transfer .running) ≡ true
+      → eqb (s .registers .descriptor .phase) 0x42 ≡ true → idi s ≡ false → bytesUnread s ≡ true → BeginsReadOut free s
 
 pub data ReadsLast : Call → State → Type 0 where
   byte : {c : Call} {s : State} → readsAt 0x19 c s ≡ true → isIncoming (s .transfer .direction) ≡ true → waits (s .fifo) ≡ 1
@@ -195,17 +180,17 @@ pub record ReadsOut (c : Call) (s : State) (k : ℕ) : Type 0 where
   pub ending : s .status .pending ≡ Ending k
 
 pub data Because : Call → State → ℕ → Type 0 where
-  brings : {c : Call} {s : State} {k : ℕ} → Brings c s k → unread s ≡ false → Because c s k
+  brings : {c : Call} {s : State} {k : ℕ} → Brings c s k → bytesUnread s ≡ false → Because c s k
   -- any code: the read that empties the FIFO of its ending
   reads : {c : Call} {s : State} {k : ℕ} → ReadsOut c s k → Because c s k
-  -- 00: Reset
-  resets : {c : Call} {s : State} → isReset c s ≡ true → Because c s 0x00
+  -- Reset's own code
+  resets : {c : Call} {s : State} → isReset c s ≡ true → Because c s (resetCode s)
   -- 11h: Answer to a Select
-  answers : {s : State} → Quiet s → s .wire .connection ≡ Selecting → isTransfer (s .transfer .running) ≡ false
+  answers : {s : State} → Quiet s → s .wire .connection ≡ Selecting → isSelectAndTransfer (s .transfer .running) ≡ false
       → Because answer s 0x11
   -- 16h: the resume at 60h
   resumes : {c : Call} {s : State} (k : ℕ) → isCommand k c s ≡ true → either (eqb k 0x08) (eqb k 0x09) ≡ true → Quiet s
-      → isRunning (s .transfer .running) ≡ false → s .wire .connection ≡ Connected → s .registers .phase ≡ 0x60
+      → isRunning (s .transfer .running) ≡ false → s .wire .connection ≡ Connected → s .registers .descriptor .phase ≡ 0x60
       → Because c s 0x16
   -- 20h: the last Message In byte of a Transfer Info whose data does not come in
   takes-last : {n b m : ℕ} {s : State} → LastMessage n b m s → isIncoming (s .transfer .direction) ≡ false
@@ -218,7 +203,7 @@ pub data Because : Call → State → ℕ → Type 0 where
       → isRunning (s .transfer .running) ≡ false → isValid k s ≡ false → Because c s 0x40
   -- 42h: Time, selecting, when the units that have added up reach register 02, which is not 0
   times-out : {n : ℕ} {s : State} → isGood (time n) ≡ true → Quiet s → s .wire .connection ≡ Selecting
-      → eqb (s .registers .timeout) 0 ≡ false → leb (s .registers .timeout) (s .wire .elapsed + n) ≡ true
+      → eqb (s .registers .setup .timeout) 0 ≡ false → leb (s .registers .setup .timeout) (s .wire .elapsed + n) ≡ true
       → Because (time n) s 0x42
   -- 80h: Reselection, not connected, other than by the Target that a waiting Select-And-Transfer names
   reselects : {lines : ℕ} {s : State} → isGood (reselection lines) ≡ true → Quiet s → qualifies lines s ≡ true
@@ -229,7 +214,7 @@ pub data Because : Call → State → ℕ → Type 0 where
       → Because free s 0x85
   -- 88h+p: a Request of a phase not yet reported, connected and idle
   asks : {n b m : ℕ} {p : Phase} {s : State} → Offered n b m p s → isIdle (s .transfer .running) ≡ true
-      → isNoted p (s .wire .reported) ≡ false → Because (request n b m) s (0x88 + phaseNumber p)
+      → isNoted p (s .wire .seen .reported) ≡ false → Because (request n b m) s (0x88 + phaseNumber p)
 
 pub record RaisedBecause (f : Call → State → Outcome) : Type 0 where
   pub sound : (c : Call) (s : State) → raised c s (f c s .state) ≡ true → Because c s (f c s .state .status .code)

@@ -14,15 +14,15 @@ use mathlib.Core.Logic.{_⊎_}
 use Prim.Native.Nat.{ℕ, _+_}
 use Rattle.chip.specs.State.{fresh}
 use Rattle.chip.specs.Phases.{phaseOf, phaseNumber}
-use Rattle.chip.specs.Interrupts.{interrupted, busy, unread}
-use Rattle.chip.specs.Calls.{Call, Outcome, time, answer, reselection, request, free}
+use Rattle.chip.specs.Interrupts.{interrupted, busy, bytesUnread}
+use Rattle.chip.specs.Calls.{Call, Outcome, time, answer, reselection, request, free, run}
 use Rattle.chip.specs.declared.State.{State}
 use Rattle.chip.specs.declared.Phase.{Phase}
 use Rattle.chip.specs.declared.Pending.the-variants.{Ending}
 use Rattle.chip.specs.declared.Connection.the-variants.{Disconnected, Selecting, Connected}
 use Rattle.unread.specs.Status.{isCommand, isReset, isSelection, isAnswer, raised}
-use Rattle.unread.specs.History.{run}
 use Rattle.unread.specs.Because.{Begins, ReadsOut, isIdle}
+use Rattle.chip.specs.Commands.{isResetCode}
 
 pub record Raises (f : Call → State → Outcome) (l : List Call) (c : Call) (k : ℕ) : Type 0 where
   pub raises : raised c (run f l fresh) (f c (run f l fresh) .state) ≡ true
@@ -54,12 +54,12 @@ ByFree f l c k =
     (c ≡ free) ⊎ (ReadsOut c (run f l fresh) k × Since f (λ d s. (d ≡ free) × Begins d s k) (λ d s. s .status .pending ≡ Ending k) l)
 
 pub record CodesOnlyBy (f : Call → State → Outcome) : Type 0 where
-  -- 00 only by Reset
-  pub by-reset : (l : List Call) (c : Call) → Raises f l c 0x00 → isReset c (run f l fresh) ≡ true
+  -- Reset's codes only by Reset
+  pub by-reset : (l : List Call) (c : Call) (k : ℕ) → isResetCode k ≡ true → Raises f l c k → isReset c (run f l fresh) ≡ true
   -- 11h only by an Answer, while selecting
   pub by-answer : (l : List Call) (c : Call) → Raises f l c 0x11 → (c ≡ answer) × (run f l fresh .wire .connection ≡ Selecting)
   -- 16h only with no incoming byte unread
-  pub all-read : (l : List Call) (c : Call) → Raises f l c 0x16 → unread (f c (run f l fresh) .state) ≡ false
+  pub all-read : (l : List Call) (c : Call) → Raises f l c 0x16 → bytesUnread (f c (run f l fresh) .state) ≡ false
   -- 22h only by Abort
   pub by-abort : (l : List Call) (c : Call) → Raises f l c 0x22 → isCommand 0x01 c (run f l fresh) ≡ true
   -- 40h only by a command

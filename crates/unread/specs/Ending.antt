@@ -18,9 +18,9 @@ use Prim.Native.Nat.{ℕ}
 use lib.Dec.{eqb, leb}
 use Rattle.chip.specs.Choice.{both, either}
 use Rattle.chip.specs.Lines.{ownIdentity}
-use Rattle.chip.specs.State.{empty, nothingRuns}
-use Rattle.chip.specs.Fifo.{front, pop, push}
-use Rattle.chip.specs.Interrupts.{interrupted, ends, isIncoming, isOutgoing, unread}
+use Rattle.chip.specs.State.{nothingRuns}
+use Rattle.chip.specs.Fifo.{front, pop, push, empty}
+use Rattle.chip.specs.Interrupts.{interrupted, inEnding, isIncoming, isOutgoing, bytesUnread}
 use Rattle.chip.specs.Calls.{Call, Outcome, pointer, auxiliary, register, block, time, answer, reselection, request, free, kind, isGood, isSet}
 use Rattle.chip.specs.declared.State.{State}
 use Rattle.chip.specs.declared.Fifo.{Fifo}
@@ -78,41 +78,41 @@ pub record Dropped (t : State) : Type 0 where
   pub running : t .transfer .running ≡ Idle
   pub way : t .transfer .direction ≡ Unfixed
   pub bytes : t .fifo ≡ empty
-  pub atn : t .wire .atn ≡ false
-  pub ack : t .wire .ack ≡ false
+  pub atn : t .wire .handshake .atn ≡ false
+  pub ack : t .wire .handshake .ack ≡ false
 
 pub record ResetDropped (s t : State) : Type 0 where
   pub pending : t .status .pending ≡ Interrupt
   pub connection : t .wire .connection ≡ Disconnected
   pub transfer : t .transfer ≡ nothingRuns
   pub bytes : t .fifo ≡ empty
-  pub atn : t .wire .atn ≡ false
-  pub ack : t .wire .ack ≡ false
-  pub identity : t .wire .identity ≡ ownIdentity (s .registers .own)
+  pub atn : t .wire .handshake .atn ≡ false
+  pub ack : t .wire .handshake .ack ≡ false
+  pub identity : t .wire .identity ≡ ownIdentity (s .registers .setup .own)
 
 abbrev pub EndingIsStill : (Call → State → Outcome) → Type 0
-EndingIsStill f = (c : Call) (s : State) → ends s ≡ true → isEvent c ≡ true → Untouched f c s
+EndingIsStill f = (c : Call) (s : State) → inEnding s ≡ true → isEvent c ≡ true → Untouched f c s
 
 pub record EndingStays (f : Call → State → Outcome) : Type 0 where
   -- what is pending stays pending, a code to come with its number
-  pub stays : (c : Call) (s : State) → ends s ≡ true → isDropped c s ≡ false → (ReadsLast c s → ⊥)
+  pub stays : (c : Call) (s : State) → inEnding s ≡ true → isDropped c s ≡ false → (ReadsLast c s → ⊥)
       → f c s .state .status .pending ≡ s .status .pending
   -- so do the running command, the way of data and the mark of a single byte
-  pub transfer-stays : (c : Call) (s : State) → ends s ≡ true → isDropped c s ≡ false → (ReadsLast c s → ⊥)
+  pub transfer-stays : (c : Call) (s : State) → inEnding s ≡ true → isDropped c s ≡ false → (ReadsLast c s → ⊥)
       → f c s .state .transfer ≡ s .transfer
   -- the bytes that wait stay, but for reads of the Data register. (With the way out a write would add one; no ending begins so, by `begins-keeps`.)
-  pub bytes-stay : (c : Call) (s : State) → ends s ≡ true → isDropped c s ≡ false → isDataRead c s ≡ false
+  pub bytes-stay : (c : Call) (s : State) → inEnding s ≡ true → isDropped c s ≡ false → isDataRead c s ≡ false
       → both (isOutgoing (s .transfer .direction)) (isDataAccess c s) ≡ false → f c s .state .fifo ≡ s .fifo
   -- a read at 19h gives the oldest byte and takes it away, and no other. (A block is its single accesses: `BlockIsAccesses`, room refusals.)
-  pub reads-oldest : (c : Call) (s : State) → unread s ≡ true → readsAt 0x19 c s ≡ true
+  pub reads-oldest : (c : Call) (s : State) → bytesUnread s ≡ true → readsAt 0x19 c s ≡ true
       → (f c s .answer ≡ Done (front (s .fifo))) × (f c s .state .fifo ≡ pop (s .fifo))
   -- after the last byte none is unread
-  pub all-read : (c : Call) (s : State) → ReadsLast c s → unread (f c s .state) ≡ false
+  pub all-read : (c : Call) (s : State) → ReadsLast c s → bytesUnread (f c s .state) ≡ false
   -- where no code is to come, the last byte that is read leads to the wait for reselection. (Where one is, it is raised: `RaisedBecause`.)
   pub waits-then : (c : Call) (s : State) → s .status .pending ≡ ReadOut → ReadsLast c s
       → (f c s .state .status .pending ≡ Nothing) × (f c s .state .wire .connection ≡ Waiting)
   -- the call that begins it leaves every byte that waits: those that waited, with the last Message In byte where it is that
-  pub begins-keeps : (c : Call) (s : State) (k : ℕ) → Brings c s k → unread s ≡ true → Waits (s .fifo) s (f c s .state)
+  pub begins-keeps : (c : Call) (s : State) (k : ℕ) → Brings c s k → bytesUnread s ≡ true → Waits (s .fifo) s (f c s .state)
   pub begins-with-last : (n b m : ℕ) (s : State) → LastMessage n b m s → isIncoming (s .transfer .direction) ≡ true
       → Waits (push b (s .fifo)) s (f (request n b m) s .state)
   pub read-out-keeps : (c : Call) (s : State) → BeginsReadOut c s → Waits (s .fifo) s (f c s .state)

@@ -5,7 +5,6 @@
 --   readBy a              .. where it reads 17h and is answered a
 --   begunBy q r           .. where it led from q pending to r: an ending with a code begins
 --   history f l s         what the calls l did, one after the other, from s
---   run f l s             the state that they lead to
 --   Owed                  what the driver has still to be told: nothing, the code at 17h, or a code to come
 --   owedBy q              .. where q is pending
 --   isComing q            a code is to come
@@ -21,7 +20,8 @@ use mathlib.Core.Bool.{Bool, true, false}
 use mathlib.Core.List.{List, [], _∷_, _++_}
 use Prim.Native.Nat.{ℕ}
 use Rattle.chip.specs.Choice.{pick, both, either}
-use Rattle.chip.specs.Calls.{Call, Outcome}
+use Rattle.chip.specs.Calls.{Call, Outcome, run}
+use Rattle.chip.specs.Commands.{resetCode}
 use Rattle.chip.specs.declared.State.{State}
 use Rattle.chip.specs.declared.Pending.{Pending}
 use Rattle.chip.specs.declared.Pending.the-variants.{Nothing, Interrupt, Ending, ReadOut}
@@ -31,7 +31,7 @@ use Rattle.unread.specs.Status.{isReset, isDisconnect, readsAt, raised}
 
 pub data Happening : Type 0 where
   raises : (code : ℕ) → Happening
-  resets : Happening
+  resets : (code : ℕ) → Happening
   reads : (byte : ℕ) → Happening
   begins : (code : ℕ) → Happening
   disconnects : Happening
@@ -72,7 +72,7 @@ begunBy q ReadOut = []
 
 unfoldable pub noted : Call → State → Outcome → List Happening
 noted c s o =
-    pick (isReset c s) (resets ∷ [])
+    pick (isReset c s) (resets (resetCode s) ∷ [])
     (pick (raised c s (o .state)) (raises (o .state .status .code) ∷ [])
     (pick (both (isDisconnect c s) (isComing (s .status .pending))) (disconnects ∷ [])
     (pick (readsAt 0x17 c s) (readBy (o .answer)) (begunBy (s .status .pending) (o .state .status .pending)))))
@@ -81,14 +81,10 @@ unfoldable pub history : (Call → State → Outcome) → List Call → State �
 history f [] s = []
 history f (c ∷ l) s = noted c s (f c s) ++ history f l (f c s .state)
 
-unfoldable pub run : (Call → State → Outcome) → List Call → State → State
-run f [] s = s
-run f (c ∷ l) s = run f l (f c s .state)
-
 abbrev pub lastCode : ℕ → List Happening → ℕ
 lastCode k [] = k
 lastCode k (raises j ∷ h) = lastCode j h
-lastCode k (resets ∷ h) = lastCode 0x00 h
+lastCode k (resets j ∷ h) = lastCode j h
 lastCode k (reads v ∷ h) = lastCode k h
 lastCode k (begins j ∷ h) = lastCode k h
 lastCode k (disconnects ∷ h) = lastCode k h
@@ -96,7 +92,7 @@ lastCode k (disconnects ∷ h) = lastCode k h
 abbrev pub owedAfter : Owed → List Happening → Owed
 owedAfter w [] = w
 owedAfter w (raises j ∷ h) = owedAfter unread h
-owedAfter w (resets ∷ h) = owedAfter unread h
+owedAfter w (resets j ∷ h) = owedAfter unread h
 owedAfter w (reads v ∷ h) = owedAfter nothing h
 owedAfter w (begins j ∷ h) = owedAfter (coming j) h
 owedAfter w (disconnects ∷ h) = owedAfter nothing h
@@ -108,7 +104,7 @@ pub data Orderly : ℕ → Owed → List Happening → Type 0 where
   -- where a code is to come, that one and no other
   coming-up : {j k : ℕ} {h : List Happening} → Orderly j unread h → Orderly k (coming j) (raises j ∷ h)
   -- always
-  resetting : {k : ℕ} {w : Owed} {h : List Happening} → Orderly 0x00 unread h → Orderly k w (resets ∷ h)
+  resetting : {j k : ℕ} {w : Owed} {h : List Happening} → Orderly j unread h → Orderly k w (resets j ∷ h)
   -- the code raised last, and no other; not before a code to come, since 17h is Blind then
   reading : {k : ℕ} {h : List Happening} → Orderly k nothing h → Orderly k unread (reads k ∷ h)
   again : {k : ℕ} {h : List Happening} → Orderly k nothing h → Orderly k nothing (reads k ∷ h)
@@ -120,19 +116,19 @@ pub data Orderly : ℕ → Owed → List Happening → Type 0 where
 pub data Follows (k : ℕ) : List Happening → Type 0 where
   not-yet : Follows k []
   raised-next : {h : List Happening} → Follows k (raises k ∷ h)
-  reset-next : {h : List Happening} → Follows k (resets ∷ h)
+  reset-next : {j : ℕ} {h : List Happening} → Follows k (resets j ∷ h)
   disconnected-next : {h : List Happening} → Follows k (disconnects ∷ h)
 
 abbrev pub isRaising : Happening → Bool
 isRaising (raises k) = true
-isRaising resets = true
+isRaising (resets k) = true
 isRaising (reads v) = false
 isRaising (begins k) = false
 isRaising disconnects = false
 
 abbrev pub isReading : Happening → Bool
 isReading (raises k) = false
-isReading resets = false
+isReading (resets k) = false
 isReading (reads v) = true
 isReading (begins k) = false
 isReading disconnects = false

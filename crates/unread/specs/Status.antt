@@ -16,7 +16,7 @@ use lib.Dec.{eqb}
 use Rattle.chip.specs.Choice.{both, either}
 use Rattle.chip.specs.Lines.{codeOf}
 use Rattle.chip.specs.Interrupts.{interrupted}
-use Rattle.chip.specs.Commands.{isConnected}
+use Rattle.chip.specs.Connections.{isConnected}
 use Rattle.chip.specs.Calls.{Call, pointer, auxiliary, register, block, time, answer, reselection, request, free, isGood, isSet}
 use Rattle.chip.specs.declared.State.{State}
 

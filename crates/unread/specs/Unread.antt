@@ -4,6 +4,7 @@
 use mathlib.Core.Path.{_≡_}
 use mathlib.Core.Bool.{true, false}
 use Rattle.chip.specs.Interrupts.{interrupted}
+use Rattle.chip.specs.Commands.{resetCode}
 use Rattle.chip.specs.Calls.{Call, Outcome}
 use Rattle.chip.specs.declared.State.{State}
 use Rattle.unread.specs.Status.{isReset, readsAt}
@@ -13,9 +14,9 @@ pub record UnreadStatusKept (f : Call → State → Outcome) : Type 0 where
   pub code-kept : (c : Call) (s : State) → interrupted s ≡ true → isReset c s ≡ false → f c s .state .status .code ≡ s .status .code
   -- any call but a read of 17h leaves INT set
   pub int-kept : (c : Call) (s : State) → interrupted s ≡ true → readsAt 0x17 c s ≡ false → interrupted (f c s .state) ≡ true
-  -- Reset sets INT, with the code 00
+  -- Reset sets INT, with its own code
   pub reset-tells : (c : Call) (s : State) → isReset c s ≡ true → interrupted (f c s .state) ≡ true
-  pub reset-code : (c : Call) (s : State) → isReset c s ≡ true → f c s .state .status .code ≡ 0x00
+  pub reset-code : (c : Call) (s : State) → isReset c s ≡ true → f c s .state .status .code ≡ resetCode s
 
 pub record CodeMovesOnlyByRaising (f : Call → State → Outcome) : Type 0 where
   -- another code after the call: INT is set

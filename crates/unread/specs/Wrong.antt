@@ -3,6 +3,7 @@
 --   peeking    reading auxiliary status clears INT
 --   mumbling   a Free puts its code at 17h without INT
 --   soft       Reset does nothing
+--   misnames   Reset tells 16h
 --   forgetful  a read of 17h gives 0
 --   hurried    a code is raised before the incoming bytes are read out
 --   sluggish   Time never runs out
@@ -24,11 +25,13 @@ use mathlib.Core.Bool.{Bool, not}
 use Prim.Native.Nat.{ℕ}
 use lib.Dec.{eqb}
 use Rattle.chip.specs.Choice.{pick, both}
-use Rattle.chip.specs.State.{empty, setFifo, setCode, setPending, setDirection, setConnection}
+use Rattle.chip.specs.State.{setFifo, setCode, setPending, setDirection, setConnection}
+use Rattle.chip.specs.Fifo.{empty}
 use Rattle.chip.specs.Answers.{done, says}
-use Rattle.chip.specs.Interrupts.{interrupted, ends, settledBy, unread}
-use Rattle.chip.specs.Commands.{isConnected}
-use Rattle.chip.specs.Events.{isTransfer, setsAtn, timedOut}
+use Rattle.chip.specs.Interrupts.{interrupted, inEnding, settledBy, bytesUnread}
+use Rattle.chip.specs.Connections.{isConnected}
+use Rattle.chip.specs.Events.{timedOut}
+use Rattle.chip.specs.Running.{isSelectAndTransfer, setsAtn}
 use Rattle.chip.specs.Calls.{Call, Outcome, kind, plain, step}
 use Rattle.chip.specs.declared.State.{State}
 use Rattle.chip.specs.declared.Pending.the-variants.{Nothing, Ending, ReadOut}
@@ -56,6 +59,9 @@ mumbling = changed 8 (setCode 0x85)
 unfoldable pub soft : Call → State → Outcome
 soft c s = pick (isReset c s) (plain (done 0 s)) (step c s)
 
+unfoldable pub misnames : Call → State → Outcome
+misnames c s = pick (isReset c s) (plain (says (step c s .answer) (setCode 0x16 (step c s .state)))) (step c s)
+
 unfoldable pub forgetful : Call → State → Outcome
 forgetful c s = pick (readsAt 0x17 c s) (plain (says (Done 0) (step c s .state))) (step c s)
 
@@ -80,52 +86,52 @@ unfoldable pub deaf : Call → State → Outcome
 deaf = changed 5 (λ s. s)
 
 -- a call of one kind, in an ending
-abbrev inEnding : ℕ → Call → State → Bool
-inEnding n c s = both (eqb (kind c) n) (ends s)
+abbrev whileEnding : ℕ → Call → State → Bool
+whileEnding n c s = both (eqb (kind c) n) (inEnding s)
 
 -- connected, with Select-And-Transfer without ATN
 abbrev servesNine : State → Bool
 servesNine s =
-    both (isConnected (s .wire .connection)) (both (isTransfer (s .transfer .running)) (not (setsAtn (s .transfer .running))))
+    both (isConnected (s .wire .connection)) (both (isSelectAndTransfer (s .transfer .running)) (not (setsAtn (s .transfer .running))))
 
 unfoldable pub drops : Call → State → Outcome
 unfolding instead
-drops = instead (λ c s. both (inEnding 4 c s) (servesNine s)) (setPending Nothing)
+drops = instead (λ c s. both (whileEnding 4 c s) (servesNine s)) (setPending Nothing)
 
 unfoldable pub renames : Call → State → Outcome
 unfolding instead
-renames = instead (inEnding 4) (setPending (Ending 0x42))
+renames = instead (whileEnding 4) (setPending (Ending 0x42))
 
 unfoldable pub spills : Call → State → Outcome
 unfolding instead
-spills = instead (inEnding 4) (setFifo empty)
+spills = instead (whileEnding 4) (setFifo empty)
 
 unfoldable pub shrugs : Call → State → Outcome
 unfolding instead
-shrugs = instead (inEnding 7) (λ s. s)
+shrugs = instead (whileEnding 7) (λ s. s)
 
 unfoldable pub invents : Call → State → Outcome
 unfolding instead
 invents =
     instead
-    (λ c s. both (eqb (kind c) 4) (both (both (not (interrupted s)) (not (ends s))) (both (isTransfer (s .transfer .running)) (unread s))))
+    (λ c s. both (eqb (kind c) 4) (both (both (not (interrupted s)) (not (inEnding s))) (both (isSelectAndTransfer (s .transfer .running)) (bytesUnread s))))
     (λ s. setPending ReadOut (setConnection Disconnected s))
 
 unfoldable pub blanks : Call → State → Outcome
-blanks c s = pick (both (readsAt 0x19 c s) (ends s)) (plain (says (Done 0) (step c s .state))) (step c s)
+blanks c s = pick (both (readsAt 0x19 c s) (inEnding s)) (plain (says (Done 0) (step c s .state))) (step c s)
 
 unfoldable pub eats : Call → State → Outcome
 eats c s =
     record {
       answer = step c s .answer;
-      state = pick (both (not (ends s)) (ends (step c s .state))) (setFifo empty (step c s .state)) (step c s .state);
+      state = pick (both (not (inEnding s)) (inEnding (step c s .state))) (setFifo empty (step c s .state)) (step c s .state);
       lent = step c s .lent;
     }
 
 unfoldable pub hollows : Call → State → Outcome
 unfolding instead
-hollows = instead (λ c s. both (isDisconnect c s) (ends s)) (λ s. setPending Nothing (setConnection Disconnected s))
+hollows = instead (λ c s. both (isDisconnect c s) (inEnding s)) (λ s. setPending Nothing (setConnection Disconnected s))
 
 unfoldable pub shuts : Call → State → Outcome
 unfolding instead
-shuts = instead (inEnding 1) (setDirection Unfixed)
+shuts = instead (whileEnding 1) (setDirection Unfixed)

@@ -6,7 +6,7 @@ use Rattle.chip.specs.State.{setFifo}
 use Rattle.chip.specs.Interrupts.{settled}
 use Rattle.chip.specs.declared.Direction.the-variants.{In}
 use Rattle.chip.specs.declared.Fifo.{Fifo}
-use Rattle.blocks.specs.Blocks.{drained}
+use Rattle.fifo.specs.Bulk.{drained}
 use Rattle.blocks.proofs.Blocks.{read-in, read-unfixed, read-out}
 use borrow.Author.Needs.{needs}
 use Rattle.blocks.proofs.block_read.Statement.{statement}

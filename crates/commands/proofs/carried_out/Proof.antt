@@ -1,4 +1,5 @@
 -- `commands::carried_out` meets its contract: each way through the code is the definition's own way.
+-- Generated: tools/write-proof commands carried_out carriedOut pick
 use borrow.Author.Tests.{eq-eqb, ne-eqb}
 use Rattle.chip.specs.Commands.{carriedOut}
 use Rattle.chip.specs.Choice.{pick}
@@ -48,19 +49,19 @@ returns-6 : tie.Need-returns-6
 unfolding carriedOut pick
 returns-6 c = simp (ne-eqb _ _ (c .before .before .before .before .before .before .if1 .left), ne-eqb _ _ (c .before .before .before .before .before .if2 .left), ne-eqb _ _ (c .before .before .before .before .if3 .left), ne-eqb _ _ (c .before .before .before .if4 .left), ne-eqb _ _ (c .before .before .if5 .left), eq-eqb _ _ (c .before .if6 .taken), c .selecting2 .ensures)
 
-transferring-requires : tie.Need-transferring-requires
-transferring-requires c κs = search needs
+select-and-transfer-begun-requires : tie.Need-select-and-transfer-begun-requires
+select-and-transfer-begun-requires c κs = search needs
 
 returns-7 : tie.Need-returns-7
 unfolding carriedOut pick
-returns-7 c = simp (ne-eqb _ _ (c .before .before .before .before .before .before .before .if1 .left), ne-eqb _ _ (c .before .before .before .before .before .before .if2 .left), ne-eqb _ _ (c .before .before .before .before .before .if3 .left), ne-eqb _ _ (c .before .before .before .before .if4 .left), ne-eqb _ _ (c .before .before .before .if5 .left), ne-eqb _ _ (c .before .before .if6 .left), eq-eqb _ _ (c .before .if7 .taken), c .transferring .ensures)
+returns-7 c = simp (ne-eqb _ _ (c .before .before .before .before .before .before .before .if1 .left), ne-eqb _ _ (c .before .before .before .before .before .before .if2 .left), ne-eqb _ _ (c .before .before .before .before .before .if3 .left), ne-eqb _ _ (c .before .before .before .before .if4 .left), ne-eqb _ _ (c .before .before .before .if5 .left), ne-eqb _ _ (c .before .before .if6 .left), eq-eqb _ _ (c .before .if7 .taken), c .select-and-transfer-begun .ensures)
 
-transferring-requires-2 : tie.Need-transferring-requires-2
-transferring-requires-2 c κs = search needs
+select-and-transfer-begun-requires-2 : tie.Need-select-and-transfer-begun-requires-2
+select-and-transfer-begun-requires-2 c κs = search needs
 
 returns-8 : tie.Need-returns-8
 unfolding carriedOut pick
-returns-8 c = simp (ne-eqb _ _ (c .before .before .before .before .before .before .before .before .if1 .left), ne-eqb _ _ (c .before .before .before .before .before .before .before .if2 .left), ne-eqb _ _ (c .before .before .before .before .before .before .if3 .left), ne-eqb _ _ (c .before .before .before .before .before .if4 .left), ne-eqb _ _ (c .before .before .before .before .if5 .left), ne-eqb _ _ (c .before .before .before .if6 .left), ne-eqb _ _ (c .before .before .if7 .left), eq-eqb _ _ (c .before .if8 .taken), c .transferring2 .ensures)
+returns-8 c = simp (ne-eqb _ _ (c .before .before .before .before .before .before .before .before .if1 .left), ne-eqb _ _ (c .before .before .before .before .before .before .before .if2 .left), ne-eqb _ _ (c .before .before .before .before .before .before .if3 .left), ne-eqb _ _ (c .before .before .before .before .before .if4 .left), ne-eqb _ _ (c .before .before .before .before .if5 .left), ne-eqb _ _ (c .before .before .before .if6 .left), ne-eqb _ _ (c .before .before .if7 .left), eq-eqb _ _ (c .before .if8 .taken), c .select-and-transfer-begun2 .ensures)
 
 with-idi-requires : tie.Need-with-idi-requires
 with-idi-requires c κs = search needs
@@ -72,12 +73,12 @@ returns-9 : tie.Need-returns-9
 unfolding carriedOut pick
 returns-9 c = simp (ne-eqb _ _ (c .before .before .before .before .before .before .before .before .before .before .if1 .left), ne-eqb _ _ (c .before .before .before .before .before .before .before .before .before .if2 .left), ne-eqb _ _ (c .before .before .before .before .before .before .before .before .if3 .left), ne-eqb _ _ (c .before .before .before .before .before .before .before .if4 .left), ne-eqb _ _ (c .before .before .before .before .before .before .if5 .left), ne-eqb _ _ (c .before .before .before .before .before .if6 .left), ne-eqb _ _ (c .before .before .before .before .if7 .left), ne-eqb _ _ (c .before .before .before .if8 .left), eq-eqb _ _ (c .before .before .if9 .taken), c .before .with-idi .ensures, c .control .ensures)
 
-informing-requires : tie.Need-informing-requires
-informing-requires c κs = search needs
+transfer-info-begun-requires : tie.Need-transfer-info-begun-requires
+transfer-info-begun-requires c κs = search needs
 
 returns-10 : tie.Need-returns-10
 unfolding carriedOut pick
-returns-10 c = simp (ne-eqb _ _ (c .before .before .before .before .before .before .before .before .before .if1 .left), ne-eqb _ _ (c .before .before .before .before .before .before .before .before .if2 .left), ne-eqb _ _ (c .before .before .before .before .before .before .before .if3 .left), ne-eqb _ _ (c .before .before .before .before .before .before .if4 .left), ne-eqb _ _ (c .before .before .before .before .before .if5 .left), ne-eqb _ _ (c .before .before .before .before .if6 .left), ne-eqb _ _ (c .before .before .before .if7 .left), ne-eqb _ _ (c .before .before .if8 .left), ne-eqb _ _ (c .before .if9 .left), c .informing .ensures)
+returns-10 c = simp (ne-eqb _ _ (c .before .before .before .before .before .before .before .before .before .if1 .left), ne-eqb _ _ (c .before .before .before .before .before .before .before .before .if2 .left), ne-eqb _ _ (c .before .before .before .before .before .before .before .if3 .left), ne-eqb _ _ (c .before .before .before .before .before .before .if4 .left), ne-eqb _ _ (c .before .before .before .before .before .if5 .left), ne-eqb _ _ (c .before .before .before .before .if6 .left), ne-eqb _ _ (c .before .before .before .if7 .left), ne-eqb _ _ (c .before .before .if8 .left), ne-eqb _ _ (c .before .if9 .left), c .transfer-info-begun .ensures)
 
 pub carried-out-spec : {M : Type 1} → statement M
 carried-out-spec =
@@ -95,12 +96,12 @@ carried-out-spec =
     returns-5
     selecting-requires-2
     returns-6
-    transferring-requires
+    select-and-transfer-begun-requires
     returns-7
-    transferring-requires-2
+    select-and-transfer-begun-requires-2
     returns-8
     with-idi-requires
     control-requires
     returns-9
-    informing-requires
+    transfer-info-begun-requires
     returns-10)

@@ -5,8 +5,8 @@ use borrow.Author.Needs.{needs}
 use Rattle.controller.proofs.am33c93a_fresh.Statement.{statement}
 use Rattle.controller.proofs.am33c93a_fresh.Tie as tie
 
-fresh-state-requires : tie.Need-fresh-state-requires
-fresh-state-requires c κs = search needs
+fresh-requires : tie.Need-fresh-requires
+fresh-requires c κs = search needs
 
 write-requires : tie.Need-write-requires
 write-requires c κs = search needs
@@ -15,11 +15,11 @@ same-length : tie.Need-same-length
 same-length c = search needs
 
 returns : tie.Need-returns
-returns c = fresh-served _ _ _ (eq-eqb _ _ (c .before .before .before .before .before .if1 .taken)) (c .before .before .before .before .fresh-state .ensures) (c .before .before .write .ensures)
+returns c = fresh-served _ _ _ (eq-eqb _ _ (c .before .before .before .before .before .if1 .taken)) (c .before .before .before .before .fresh .ensures) (c .before .before .write .ensures)
 
 returns-2 : tie.Need-returns-2
 returns-2 c = fresh-refused _ (ne-eqb _ _ (c .if1 .left))
 
 pub am33c93a-fresh-spec : {M : Type 1} → statement M
 am33c93a-fresh-spec =
-    tie.close (tie.spec fresh-state-requires write-requires same-length returns returns-2)
+    tie.close (tie.spec fresh-requires write-requires same-length returns returns-2)

@@ -8,28 +8,28 @@ use borrow.Author.Needs.{needs}
 use Rattle.controller.proofs.am33c93a_pointer.Statement.{statement}
 use Rattle.controller.proofs.am33c93a_pointer.Tie as tie
 
-stands-requires : tie.Need-stands-requires
-stands-requires c κs = search needs
+is-image-requires : tie.Need-is-image-requires
+is-image-requires c κs = search needs
 
 cast-pointer : tie.Need-cast-pointer
 cast-pointer c = search needs
 
 pointer-requires : tie.Need-pointer-requires
-pointer-requires c κs = c .before .before .stands .ensures .1 (c .before .if3 .taken)
+pointer-requires c κs = c .before .before .is-image .ensures .1 (c .before .if3 .taken)
 
 same-length : tie.Need-same-length
 same-length c = search needs
 
 returns : tie.Need-returns
 unfolding isGood carried
-returns c = entered-made (Calls.pointer _ _) _ _ _ _ (sym (c .before .before .before .before .before .stands .ensures .0) ∙ c .before .before .before .before .if3 .taken) (and-true (lt-ltb _ _ (c .before .before .before .before .before .before .before .before .if1 .taken)) (lt-ltb _ _ (c .before .before .before .before .before .before .before .if2 .taken))) refl (c .before .before .pointer .ensures)
+returns c = entered-made (Calls.pointer _ _) _ _ _ _ (sym (c .before .before .before .before .before .is-image .ensures .0) ∙ c .before .before .before .before .if3 .taken) (and-true (lt-ltb _ _ (c .before .before .before .before .before .before .before .before .if1 .taken)) (lt-ltb _ _ (c .before .before .before .before .before .before .before .if2 .taken))) refl (c .before .before .pointer .ensures)
 
 same-length-2 : tie.Need-same-length-2
 same-length-2 c = search needs
 
 returns-2 : tie.Need-returns-2
 unfolding isGood carried
-returns-2 c = not-standing (Calls.pointer _ _) _ (sym (c .before .stands .ensures .0) ∙ c .if3 .left)
+returns-2 c = not-standing (Calls.pointer _ _) _ (sym (c .before .is-image .ensures .0) ∙ c .if3 .left)
 
 returns-3 : tie.Need-returns-3
 unfolding isGood carried
@@ -43,7 +43,7 @@ pub am33c93a-pointer-spec : {M : Type 1} → statement M
 am33c93a-pointer-spec =
     tie.close
     (tie.spec
-    stands-requires
+    is-image-requires
     cast-pointer
     pointer-requires
     same-length

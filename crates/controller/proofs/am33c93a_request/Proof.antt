@@ -8,8 +8,8 @@ use borrow.Author.Needs.{needs}
 use Rattle.controller.proofs.am33c93a_request.Statement.{statement}
 use Rattle.controller.proofs.am33c93a_request.Tie as tie
 
-stands-requires : tie.Need-stands-requires
-stands-requires c κs = search needs
+is-image-requires : tie.Need-is-image-requires
+is-image-requires c κs = search needs
 
 cast-request : tie.Need-cast-request
 cast-request c = search needs
@@ -18,7 +18,7 @@ cast-request-2 : tie.Need-cast-request-2
 cast-request-2 c = search needs
 
 request-requires : tie.Need-request-requires
-request-requires c κs = c .before .before .stands .ensures .1 (c .before .if4 .taken)
+request-requires c κs = c .before .before .is-image .ensures .1 (c .before .if4 .taken)
 
 same-length : tie.Need-same-length
 same-length c = search needs
@@ -26,7 +26,7 @@ same-length c = search needs
 returns : tie.Need-returns
 unfolding isGood carried
 returns c =
-    entered-made (Calls.request _ _ _) _ _ _ _ (sym (c .before .before .before .before .before .stands .ensures .0) ∙ c .before .before .before .before .if4 .taken)
+    entered-made (Calls.request _ _ _) _ _ _ _ (sym (c .before .before .before .before .before .is-image .ensures .0) ∙ c .before .before .before .before .if4 .taken)
     (and-true (lt-ltb _ _ (c .before .before .before .before .before .before .before .before .before .if1 .taken)) (and-true (lt-ltb _ _ (c .before .before .before .before .before .before .before .before .if2 .taken)) (lt-ltb _ _ (c .before .before .before .before .before .before .before .if3 .taken))))
     refl (c .before .before .request .ensures)
 
@@ -35,7 +35,7 @@ same-length-2 c = search needs
 
 returns-2 : tie.Need-returns-2
 unfolding isGood carried
-returns-2 c = not-standing (Calls.request _ _ _) _ (sym (c .before .stands .ensures .0) ∙ c .if4 .left)
+returns-2 c = not-standing (Calls.request _ _ _) _ (sym (c .before .is-image .ensures .0) ∙ c .if4 .left)
 
 returns-3 : tie.Need-returns-3
 unfolding isGood carried
@@ -53,7 +53,7 @@ pub am33c93a-request-spec : {M : Type 1} → statement M
 am33c93a-request-spec =
     tie.close
     (tie.spec
-    stands-requires
+    is-image-requires
     cast-request
     cast-request-2
     request-requires

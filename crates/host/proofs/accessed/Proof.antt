@@ -1,4 +1,5 @@
 -- `host::accessed` meets its contract: each way through the code is the definition's own way.
+-- Generated: tools/write-proof host accessed accessed
 use Rattle.chip.specs.Registers.{accessed}
 use borrow.Author.Needs.{needs}
 use Rattle.host.proofs.accessed.Statement.{statement}

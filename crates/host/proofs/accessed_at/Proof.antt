@@ -1,4 +1,5 @@
 -- `host::accessed_at` meets its contract: each way through the code is the definition's own way.
+-- Generated: tools/write-proof host accessed_at accessedAt pick
 use mathlib.Core.Path.{sym, _∙_}
 use Rattle.chip.specs.Registers.{accessedAt}
 use Rattle.chip.specs.Choice.{pick}

@@ -1,4 +1,5 @@
 -- `host::auxiliary_read` meets its contract: each way through the code is the definition's own way.
+-- Generated: tools/write-proof host auxiliary_read auxiliaryRead
 use Rattle.chip.specs.Registers.{auxiliaryRead}
 use borrow.Author.Needs.{needs}
 use Rattle.host.proofs.auxiliary_read.Statement.{statement}

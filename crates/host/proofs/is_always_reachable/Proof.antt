@@ -1,4 +1,5 @@
 -- `host::is_always_reachable` meets its contract: each way through the code is the definition's own way.
+-- Generated: tools/write-proof host is_always_reachable either
 use borrow.Author.Tests.{eq-eqb, ne-eqb}
 use Rattle.chip.specs.Choice.{either}
 use Rattle.host.proofs.is_always_reachable.Statement.{statement}

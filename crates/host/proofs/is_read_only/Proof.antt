@@ -1,4 +1,5 @@
 -- `host::is_read_only` meets its contract: each way through the code is the definition's own way.
+-- Generated: tools/write-proof host is_read_only both
 use Rattle.chip.specs.Choice.{both}
 use Rattle.host.proofs.is_read_only.Statement.{statement}
 use Rattle.host.proofs.is_read_only.Tie as tie

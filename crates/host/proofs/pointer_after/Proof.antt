@@ -1,4 +1,5 @@
 -- `host::pointer_after` meets its contract: each way through the code is the definition's own way.
+-- Generated: tools/write-proof host pointer_after pointerAfter pick either
 use borrow.Author.Tests.{eq-eqb, ne-eqb}
 use Rattle.chip.specs.Registers.{pointerAfter}
 use Rattle.chip.specs.Choice.{pick, either}

@@ -1,4 +1,5 @@
 -- `host::read_at` meets its contract: each way through the code is the definition's own way.
+-- Generated: tools/write-proof host read_at readAt pick
 use borrow.Author.Tests.{eq-eqb, ne-eqb}
 use Rattle.chip.specs.Registers.{readAt}
 use Rattle.chip.specs.Choice.{pick}

@@ -1,4 +1,5 @@
 -- `host::stepped` meets its contract: each way through the code is the definition's own way.
+-- Generated: tools/write-proof host stepped stepped
 use Rattle.chip.specs.Registers.{stepped}
 use borrow.Author.Needs.{needs}
 use Rattle.host.proofs.stepped.Statement.{statement}

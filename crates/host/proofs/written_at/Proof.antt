@@ -1,4 +1,5 @@
 -- `host::written_at` meets its contract: each way through the code is the definition's own way.
+-- Generated: tools/write-proof host written_at writtenAt pick
 use borrow.Author.Tests.{eq-eqb, ne-eqb}
 use Rattle.chip.specs.Registers.{writtenAt}
 use Rattle.chip.specs.Choice.{pick}

@@ -1,147 +1,36 @@
--- `image::is_image` meets its contract: the flag that the code makes is the definition's ranges, one beside the other.
+-- `image::is_image` meets its contract: the laws of the image hold of a slice of bytes.
 use mathlib.Core.Path.{_≡_, sym, _∙_}
-use mathlib.Core.Bool.{Bool, true, false, _&&_, _||_}
-use mathlib.Core.List.{List}
+use mathlib.Core.Bool.{true}
 use Prim.Native.Nat.{ℕ}
 use native.Mathlib.Omega.{arith}
-use lib.Dec.{eqb, ltb}
-use lib.ListN.{length, getD, take, drop}
-use borrow.Author.Tests.{eq-eqb, ne-eqb}
+use borrow.Author.Tests.{ne-eqb}
 use Rattle.chip.specs.Choice.{both}
-use Rattle.chip.specs.Image.{areZero, isImage}
-use Rattle.image.proofs.Tests.{both-on, both-and, either-or, and-chain}
+use Rattle.chip.specs.Image.{isImage}
+use Rattle.chip.specs.Ok.{Bytes}
+use Rattle.chip.proofs.ImageLaws.{image-state, state-ok}
 use borrow.Author.Needs.{needs}
 use Rattle.image.proofs.is_image.Statement.{statement}
 use Rattle.image.proofs.is_image.Tie as tie
 
-lined-up : (a b c d e f g h i j k l m n z : Bool)
-    → both a (both b (both c (both d (both e (both f (both g (both h (both i (both j (both k (both l (both m (both n z)))))))))))))
-    ≡ both (a && b && c && d && e && f && g && h && i && j && k && l && m && n) z
-lined-up a b c d e f g h i j k l m n z = simp (both-and, and-chain)
-
--- the flag that the code makes
-abbrev flag : List ℕ → Bool
-flag l =
-    ltb (getD l 26 0) 2
-    && ltb (getD l 27 0) 2
-    && ltb (getD l 28 0) 4
-    && (eqb (getD l 28 0) 2 || eqb (getD l 29 0) 0)
-    && ltb (getD l 30 0) 4
-    && ltb (getD l 31 0) 6
-    && ltb (getD l 32 0) 3
-    && ltb (getD l 33 0) 2
-    && ltb (getD l 34 0) 2
-    && ltb (getD l 35 0) 2
-    && ltb (getD l 36 0) 9
-    && ltb (getD l 37 0) 9
-    && ltb (getD l 38 0) 8
-    && ltb (getD l 40 0) 13
-
-settled : (l : List ℕ) (r : Bool) → length l ≡ 53 → flag l ≡ r
-    → isImage l ≡ both r (areZero (drop (getD l 40 0) (take 12 (drop 41 l))))
-unfolding isImage
-settled l r h e = rw (eq-eqb _ _ h, ← e, either-or) (both-on _ ∙ lined-up _ _ _ _ _ _ _ _ _ _ _ _ _ _ _)
+has-form-requires : tie.Need-has-form-requires
+has-form-requires c κs = search needs
 
 returns : tie.Need-returns
-unfolding isImage both
-returns c = simp (ne-eqb _ _ (c .if1 .taken))
-
-shared-slice-read-ranges : tie.Need-shared-slice-read-ranges
-shared-slice-read-ranges c = search needs
-
-shared-slice-read-ranges-2 : tie.Need-shared-slice-read-ranges-2
-shared-slice-read-ranges-2 c = search needs
-
-shared-slice-read-ranges-3 : tie.Need-shared-slice-read-ranges-3
-shared-slice-read-ranges-3 c = search needs
-
-shared-slice-read-ranges-4 : tie.Need-shared-slice-read-ranges-4
-shared-slice-read-ranges-4 c = search needs
-
-shared-slice-read-ranges-5 : tie.Need-shared-slice-read-ranges-5
-shared-slice-read-ranges-5 c = search needs
-
-shared-slice-read-ranges-6 : tie.Need-shared-slice-read-ranges-6
-shared-slice-read-ranges-6 c = search needs
-
-shared-slice-read-ranges-7 : tie.Need-shared-slice-read-ranges-7
-shared-slice-read-ranges-7 c = search needs
-
-shared-slice-read-ranges-8 : tie.Need-shared-slice-read-ranges-8
-shared-slice-read-ranges-8 c = search needs
-
-shared-slice-read-ranges-9 : tie.Need-shared-slice-read-ranges-9
-shared-slice-read-ranges-9 c = search needs
-
-shared-slice-read-ranges-10 : tie.Need-shared-slice-read-ranges-10
-shared-slice-read-ranges-10 c = search needs
-
-shared-slice-read-ranges-11 : tie.Need-shared-slice-read-ranges-11
-shared-slice-read-ranges-11 c = search needs
-
-shared-slice-read-ranges-12 : tie.Need-shared-slice-read-ranges-12
-shared-slice-read-ranges-12 c = search needs
-
-shared-slice-read-ranges-13 : tie.Need-shared-slice-read-ranges-13
-shared-slice-read-ranges-13 c = search needs
-
-shared-slice-read-ranges-14 : tie.Need-shared-slice-read-ranges-14
-shared-slice-read-ranges-14 c = search needs
-
-shared-slice-read-ranges-15 : tie.Need-shared-slice-read-ranges-15
-shared-slice-read-ranges-15 c = search needs
-
-shared-slice-read-held : tie.Need-shared-slice-read-held
-shared-slice-read-held c = search needs
-
-cast-held : tie.Need-cast-held
-cast-held c = omega (arith, c .shared-slice-known17 .given 40)
-
-sub-are-zero : tie.Need-sub-are-zero
-sub-are-zero c = search needs
-
-part-are-zero-start : tie.Need-part-are-zero-start
-part-are-zero-start c = search needs
-
-part-are-zero-end : tie.Need-part-are-zero-end
-part-are-zero-end c = search needs
-
-are-zero-requires : tie.Need-are-zero-requires
-are-zero-requires c κs = search needs
+returns c =
+    let l = c .before .before .before .args .image .now in
+    let bytes : Bytes l = λ k. omega (arith, c .before .before .shared-slice-known .given k) in (
+      c .has-form .ensures,
+      λ h.
+          let e : isImage l ≡ true = sym (c .has-form .ensures) ∙ h in
+          record { valid = e; ok = state-ok l e bytes; same = image-state l e bytes },
+    )
 
 returns-2 : tie.Need-returns-2
-unfolding both
-returns-2 c = c .are-zero .ensures ∙ sym (settled _ true (c .before .before .before .before .before .before .before .before .before .before .before .before .before .before .before .before .before .before .before .if1 .left) (c .before .before .before .if2 .taken))
-
-returns-3 : tie.Need-returns-3
-unfolding both
-returns-3 c = sym (settled (c .before .before .before .before .before .before .before .before .before .before .before .before .before .before .before .before .before .before .args .image .now) false (c .before .before .before .before .before .before .before .before .before .before .before .before .before .before .before .before .if1 .left) (c .if2 .left))
+unfolding isImage both
+returns-2 c = (
+  simp (ne-eqb _ _ (c .if1 .left)),
+  λ h. let z : _≡_ {A = ℕ} 0 1 = cc in absurd (omega arith),
+)
 
 pub is-image-spec : {M : Type 1} → statement M
-is-image-spec =
-    tie.close
-    (tie.spec
-    returns
-    shared-slice-read-ranges
-    shared-slice-read-ranges-2
-    shared-slice-read-ranges-3
-    shared-slice-read-ranges-4
-    shared-slice-read-ranges-5
-    shared-slice-read-ranges-6
-    shared-slice-read-ranges-7
-    shared-slice-read-ranges-8
-    shared-slice-read-ranges-9
-    shared-slice-read-ranges-10
-    shared-slice-read-ranges-11
-    shared-slice-read-ranges-12
-    shared-slice-read-ranges-13
-    shared-slice-read-ranges-14
-    shared-slice-read-ranges-15
-    shared-slice-read-held
-    cast-held
-    sub-are-zero
-    part-are-zero-start
-    part-are-zero-end
-    are-zero-requires
-    returns-2
-    returns-3)
+is-image-spec = tie.close (tie.spec has-form-requires returns returns-2)

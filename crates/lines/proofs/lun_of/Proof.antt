@@ -9,7 +9,7 @@ use Rattle.lines.proofs.lun_of.Tie as tie
 
 returns : tie.Need-returns
 unfolding lunOf
-returns c = ap {B = Lun} (λ (n : ℕ). record { number = n }) (and-mask (c .before .args .s .registers .lun) 3)
+returns c = ap {B = Lun} (λ (n : ℕ). record { number = n }) (and-mask (c .before .args .s .registers .descriptor .lun) 3)
 
 pub lun-of-spec : {M : Type 1} → statement M
 lun-of-spec = tie.close (tie.spec returns)

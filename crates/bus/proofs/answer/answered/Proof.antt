@@ -1,18 +1,35 @@
 -- `bus::answer::answered` meets its contract: each way through the code is the definition's own way.
+-- Generated: tools/write-proof bus answer/answered answered pick
+use mathlib.Core.Path.{sym, _∙_}
 use Rattle.chip.specs.Events.{answered}
+use Rattle.chip.specs.Choice.{pick}
 use borrow.Author.Needs.{needs}
 use Rattle.bus.proofs.answer.answered.Statement.{statement}
 use Rattle.bus.proofs.answer.answered.Tie as tie
 
-connection-requires : tie.Need-connection-requires
-connection-requires c κs = search needs
+is-selecting-requires : tie.Need-is-selecting-requires
+is-selecting-requires c κs = search needs
 
-answered-by-requires : tie.Need-answered-by-requires
-answered-by-requires c κs = search needs
+answered-selecting-requires : tie.Need-answered-selecting-requires
+answered-selecting-requires c κs = search needs
 
 returns : tie.Need-returns
-unfolding answered
-returns c = simp (c .before .connection .ensures, c .answered-by .ensures)
+unfolding answered pick
+returns c = simp (sym (c .before .before .is-selecting .ensures) ∙ (c .before .if1 .taken), c .answered-selecting .ensures)
+
+out-of-place-requires : tie.Need-out-of-place-requires
+out-of-place-requires c κs = search needs
+
+returns-2 : tie.Need-returns-2
+unfolding answered pick
+returns-2 c = simp (sym (c .before .before .is-selecting .ensures) ∙ (c .before .if1 .left), c .out-of-place .ensures)
 
 pub answered-spec : {M : Type 1} → statement M
-answered-spec = tie.close (tie.spec connection-requires answered-by-requires returns)
+answered-spec =
+    tie.close
+    (tie.spec
+    is-selecting-requires
+    answered-selecting-requires
+    returns
+    out-of-place-requires
+    returns-2)

@@ -1,4 +1,5 @@
 -- `bus::answer::answered_selecting` meets its contract: each way through the code is the definition's own way.
+-- Generated: tools/write-proof bus answer/answered_selecting answeredSelecting pick unlessInterrupt
 use mathlib.Core.Path.{sym, _∙_}
 use Rattle.chip.specs.Events.{answeredSelecting}
 use Rattle.chip.specs.Choice.{pick}
@@ -7,21 +8,21 @@ use borrow.Author.Needs.{needs}
 use Rattle.bus.proofs.answer.answered_selecting.Statement.{statement}
 use Rattle.bus.proofs.answer.answered_selecting.Tie as tie
 
-ends-requires : tie.Need-ends-requires
-ends-requires c κs = search needs
+in-ending-requires : tie.Need-in-ending-requires
+in-ending-requires c κs = search needs
 
 held-requires : tie.Need-held-requires
 held-requires c κs = search needs
 
 returns : tie.Need-returns
 unfolding answeredSelecting pick unlessInterrupt
-returns c = simp (sym (c .before .before .ends .ensures) ∙ (c .before .if1 .taken), c .held .ensures)
+returns c = simp (sym (c .before .before .in-ending .ensures) ∙ (c .before .if1 .taken), c .held .ensures)
 
 answered-state-requires : tie.Need-answered-state-requires
 answered-state-requires c κs = search needs
 
-is-transfer-requires : tie.Need-is-transfer-requires
-is-transfer-requires c κs = search needs
+is-select-and-transfer-requires : tie.Need-is-select-and-transfer-requires
+is-select-and-transfer-requires c κs = search needs
 
 phase-requires : tie.Need-phase-requires
 phase-requires c κs = search needs
@@ -31,7 +32,7 @@ done-requires c κs = search needs
 
 returns-2 : tie.Need-returns-2
 unfolding answeredSelecting pick unlessInterrupt
-returns-2 c = simp (c .before .before .before .before .before .before .ends .ensures, sym (c .before .before .before .before .before .before .ends .ensures) ∙ (c .before .before .before .before .before .if1 .left), c .before .before .before .before .answered-state .ensures, sym (c .before .before .before .is-transfer .ensures) ∙ (c .before .before .if2 .taken), c .before .phase .ensures, c .done .ensures)
+returns-2 c = simp (sym (c .before .before .before .before .before .before .in-ending .ensures) ∙ (c .before .before .before .before .before .if1 .left), c .before .before .before .before .answered-state .ensures, sym (c .before .before .before .is-select-and-transfer .ensures) ∙ (c .before .before .if2 .taken), c .before .phase .ensures, c .done .ensures)
 
 interrupted-requires : tie.Need-interrupted-requires
 interrupted-requires c κs = search needs
@@ -41,7 +42,7 @@ held-requires-2 c κs = search needs
 
 returns-3 : tie.Need-returns-3
 unfolding answeredSelecting pick unlessInterrupt
-returns-3 c = simp (c .before .before .before .before .before .before .before .ends .ensures, sym (c .before .before .before .before .before .before .before .ends .ensures) ∙ (c .before .before .before .before .before .before .if1 .left), c .before .before .before .before .before .answered-state .ensures, sym (c .before .before .before .before .is-transfer .ensures) ∙ (c .before .before .before .if2 .left), sym (c .before .before .interrupted .ensures) ∙ (c .before .if3 .taken), c .held2 .ensures)
+returns-3 c = simp (sym (c .before .before .before .before .before .before .before .in-ending .ensures) ∙ (c .before .before .before .before .before .before .if1 .left), sym (c .before .before .before .before .is-select-and-transfer .ensures) ∙ (c .before .before .before .if2 .left), sym (c .before .before .interrupted .ensures) ∙ (c .before .if3 .taken), c .held2 .ensures)
 
 raise-requires : tie.Need-raise-requires
 raise-requires c κs = search needs
@@ -51,17 +52,17 @@ done-requires-2 c κs = search needs
 
 returns-4 : tie.Need-returns-4
 unfolding answeredSelecting pick unlessInterrupt
-returns-4 c = simp (c .before .before .before .before .before .before .before .before .ends .ensures, sym (c .before .before .before .before .before .before .before .before .ends .ensures) ∙ (c .before .before .before .before .before .before .before .if1 .left), c .before .before .before .before .before .before .answered-state .ensures, c .before .before .before .before .before .is-transfer .ensures, sym (c .before .before .before .before .before .is-transfer .ensures) ∙ (c .before .before .before .before .if2 .left), sym (c .before .before .before .interrupted .ensures) ∙ (c .before .before .if3 .left), c .before .raise .ensures, c .done2 .ensures)
+returns-4 c = simp (sym (c .before .before .before .before .before .before .before .before .in-ending .ensures) ∙ (c .before .before .before .before .before .before .before .if1 .left), c .before .before .before .before .before .before .answered-state .ensures, sym (c .before .before .before .before .before .is-select-and-transfer .ensures) ∙ (c .before .before .before .before .if2 .left), sym (c .before .before .before .interrupted .ensures) ∙ (c .before .before .if3 .left), c .before .raise .ensures, c .done2 .ensures)
 
 pub answered-selecting-spec : {M : Type 1} → statement M
 answered-selecting-spec =
     tie.close
     (tie.spec
-    ends-requires
+    in-ending-requires
     held-requires
     returns
     answered-state-requires
-    is-transfer-requires
+    is-select-and-transfer-requires
     phase-requires
     done-requires
     returns-2

@@ -1,12 +1,9 @@
 -- `bus::answer::answered_state` meets its contract: each way through the code is the definition's own way.
+-- Generated: tools/write-proof bus answer/answered_state answeredState
 use Rattle.chip.specs.Events.{answeredState}
-use Rattle.chip.specs.Choice.{either}
 use borrow.Author.Needs.{needs}
 use Rattle.bus.proofs.answer.answered_state.Statement.{statement}
 use Rattle.bus.proofs.answer.answered_state.Tie as tie
-
-running-requires : tie.Need-running-requires
-running-requires c κs = search needs
 
 sets-atn-requires : tie.Need-sets-atn-requires
 sets-atn-requires c κs = search needs
@@ -21,16 +18,9 @@ atn-requires : tie.Need-atn-requires
 atn-requires c κs = search needs
 
 returns : tie.Need-returns
-unfolding answeredState either
-returns c = simp (c .before .before .before .before .running .ensures, c .before .before .before .sets-atn .ensures, c .before .before .atn-with .ensures, c .before .connected .ensures, c .atn .ensures)
+unfolding answeredState
+returns c = simp (c .before .before .before .sets-atn .ensures, c .before .before .atn-with .ensures, c .before .connected .ensures, c .atn .ensures)
 
 pub answered-state-spec : {M : Type 1} → statement M
 answered-state-spec =
-    tie.close
-    (tie.spec
-    running-requires
-    sets-atn-requires
-    atn-with-requires
-    connected-requires
-    atn-requires
-    returns)
+    tie.close (tie.spec sets-atn-requires atn-with-requires connected-requires atn-requires returns)

@@ -1,4 +1,5 @@
 -- `bus::answer::atn_with` meets its contract: each way through the code is the definition's own way.
+-- Generated: tools/write-proof bus answer/atn_with either
 use Rattle.chip.specs.Choice.{either}
 use Rattle.bus.proofs.answer.atn_with.Statement.{statement}
 use Rattle.bus.proofs.answer.atn_with.Tie as tie

@@ -1,4 +1,5 @@
 -- `bus::answer::connected` meets its contract: each way through the code is the definition's own way.
+-- Generated: tools/write-proof bus answer/connected connected
 use Rattle.chip.specs.Events.{connected}
 use borrow.Author.Needs.{needs}
 use Rattle.bus.proofs.answer.connected.Statement.{statement}

@@ -1,4 +1,5 @@
 -- `bus::free::bus_free` meets its contract: each way through the code is the definition's own way.
+-- Generated: tools/write-proof bus free/bus_free busFree
 use Rattle.chip.specs.Events.{busFree}
 use borrow.Author.Needs.{needs}
 use Rattle.bus.proofs.free.bus_free.Statement.{statement}

@@ -1,4 +1,5 @@
 -- `bus::free::idle_free` meets its contract: each way through the code is the definition's own way.
+-- Generated: tools/write-proof bus free/idle_free idleFree unlessInterrupt pick
 use mathlib.Core.Path.{sym, _∙_}
 use Rattle.chip.specs.Events.{idleFree}
 use Rattle.chip.specs.Interrupts.{unlessInterrupt}

@@ -1,4 +1,5 @@
 -- `bus::request::idle_request` meets its contract: each way through the code is the definition's own way.
+-- Generated: tools/write-proof bus request/idle_request idleRequest pick unlessInterrupt
 use mathlib.Core.Path.{sym, _∙_}
 use Rattle.chip.specs.Events.{idleRequest}
 use Rattle.chip.specs.Choice.{pick}
@@ -27,8 +28,8 @@ returns-2 : tie.Need-returns-2
 unfolding idleRequest pick unlessInterrupt
 returns-2 c = simp (sym (c .before .before .before .before .is-reported .ensures) ∙ (c .before .before .before .if1 .left), sym (c .before .before .interrupted .ensures) ∙ (c .before .if2 .taken), c .held2 .ensures)
 
-asked-requires : tie.Need-asked-requires
-asked-requires c κs = search needs
+coded-requires : tie.Need-coded-requires
+coded-requires c κs = search needs
 
 reported-requires : tie.Need-reported-requires
 reported-requires c κs = search needs
@@ -41,7 +42,7 @@ reports-requires c κs = search needs
 
 returns-3 : tie.Need-returns-3
 unfolding idleRequest pick unlessInterrupt
-returns-3 c = simp (c .before .before .before .before .before .before .before .is-reported .ensures, sym (c .before .before .before .before .before .before .before .is-reported .ensures) ∙ (c .before .before .before .before .before .before .if1 .left), c .before .before .before .before .before .interrupted .ensures, sym (c .before .before .before .before .before .interrupted .ensures) ∙ (c .before .before .before .before .if2 .left), c .before .before .before .asked .ensures, c .before .before .reported .ensures, c .before .raise .ensures, c .reports .ensures)
+returns-3 c = simp (sym (c .before .before .before .before .before .before .before .is-reported .ensures) ∙ (c .before .before .before .before .before .before .if1 .left), sym (c .before .before .before .before .before .interrupted .ensures) ∙ (c .before .before .before .before .if2 .left), c .before .before .before .coded .ensures, c .before .before .reported .ensures, c .before .raise .ensures, c .reports .ensures)
 
 pub idle-request-spec : {M : Type 1} → statement M
 idle-request-spec =
@@ -53,7 +54,7 @@ idle-request-spec =
     interrupted-requires
     held-requires-2
     returns-2
-    asked-requires
+    coded-requires
     reported-requires
     raise-requires
     reports-requires

@@ -1,4 +1,5 @@
 -- `bus::request::remembered` meets its contract: each way through the code is the definition's own way.
+-- Generated: tools/write-proof bus request/remembered remembered
 use Rattle.chip.specs.Events.{remembered}
 use borrow.Author.Needs.{needs}
 use Rattle.bus.proofs.request.remembered.Statement.{statement}

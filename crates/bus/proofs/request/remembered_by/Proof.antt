@@ -1,5 +1,5 @@
 -- `bus::request::remembered_by` meets its contract: each way through the code is the definition's own way.
-
+-- Generated: tools/write-proof bus request/remembered_by
 use borrow.Author.Needs.{needs}
 use Rattle.bus.proofs.request.remembered_by.Statement.{statement}
 use Rattle.bus.proofs.request.remembered_by.Tie as tie

@@ -1,4 +1,5 @@
 -- `bus::reselection::names_target` meets its contract: each way through the code is the definition's own way.
+-- Generated: tools/write-proof bus reselection/names_target namesTarget both
 use mathlib.Core.Path.{sym, _∙_}
 use Rattle.chip.specs.Events.{namesTarget}
 use Rattle.chip.specs.Choice.{both}
@@ -6,8 +7,8 @@ use borrow.Author.Needs.{needs}
 use Rattle.bus.proofs.reselection.names_target.Statement.{statement}
 use Rattle.bus.proofs.reselection.names_target.Tie as tie
 
-is-transfer-requires : tie.Need-is-transfer-requires
-is-transfer-requires c κs = search needs
+is-select-and-transfer-requires : tie.Need-is-select-and-transfer-requires
+is-select-and-transfer-requires c κs = search needs
 
 are-two-requires : tie.Need-are-two-requires
 are-two-requires c κs = search needs
@@ -26,21 +27,21 @@ same-identity-requires c κs = search needs
 
 returns : tie.Need-returns
 unfolding namesTarget both
-returns c = simp (c .before .before .before .before .before .before .before .is-transfer .ensures, sym (c .before .before .before .before .before .before .before .is-transfer .ensures) ∙ (c .before .before .before .before .before .before .if1 .taken), sym (c .before .before .before .before .before .are-two .ensures) ∙ (c .before .before .before .before .if2 .taken), c .before .before .before .identity .ensures, c .before .before .other-identity .ensures, c .before .destination .ensures, c .same-identity .ensures)
+returns c = simp (sym (c .before .before .before .before .before .before .before .is-select-and-transfer .ensures) ∙ (c .before .before .before .before .before .before .if1 .taken), sym (c .before .before .before .before .before .are-two .ensures) ∙ (c .before .before .before .before .if2 .taken), c .before .before .before .identity .ensures, c .before .before .other-identity .ensures, c .before .destination .ensures, c .same-identity .ensures)
 
 returns-2 : tie.Need-returns-2
 unfolding namesTarget both
-returns-2 c = simp (sym (c .before .before .before .is-transfer .ensures) ∙ (c .before .before .if1 .taken), sym (c .before .are-two .ensures) ∙ (c .if2 .left))
+returns-2 c = simp (sym (c .before .before .before .is-select-and-transfer .ensures) ∙ (c .before .before .if1 .taken), sym (c .before .are-two .ensures) ∙ (c .if2 .left))
 
 returns-3 : tie.Need-returns-3
 unfolding namesTarget both
-returns-3 c = simp (sym (c .before .is-transfer .ensures) ∙ (c .if1 .left))
+returns-3 c = simp (sym (c .before .is-select-and-transfer .ensures) ∙ (c .if1 .left))
 
 pub names-target-spec : {M : Type 1} → statement M
 names-target-spec =
     tie.close
     (tie.spec
-    is-transfer-requires
+    is-select-and-transfer-requires
     are-two-requires
     identity-requires
     other-identity-requires

@@ -1,4 +1,5 @@
 -- `bus::reselection::reselected_state` meets its contract: each way through the code is the definition's own way.
+-- Generated: tools/write-proof bus reselection/reselected_state reselectedState
 use Rattle.chip.specs.Events.{reselectedState}
 use borrow.Author.Needs.{needs}
 use Rattle.bus.proofs.reselection.reselected_state.Statement.{statement}

@@ -1,6 +1,7 @@
 -- `bus::time::selection_time` meets its contract: each way through the code is the definition's own way.
+-- Generated: tools/write-proof bus time/selection_time selectionTime pick
 use mathlib.Core.Path.{sym, _∙_}
-use borrow.Author.Tests.{eq-eqb, ne-eqb, lt-ltb, le-ltb, le-leb, lt-leb}
+use borrow.Author.Tests.{eq-eqb, ne-eqb, le-leb, lt-leb}
 use Rattle.chip.specs.Events.{selectionTime}
 use Rattle.chip.specs.Choice.{pick}
 use borrow.Author.Needs.{needs}
@@ -41,7 +42,7 @@ done-requires-2 c κs = search needs
 
 returns-3 : tie.Need-returns-3
 unfolding selectionTime pick
-returns-3 c = simp (c .before .before .before .before .before .before .interrupted .ensures, sym (c .before .before .before .before .before .before .interrupted .ensures) ∙ (c .before .before .before .before .before .if1 .left), ne-eqb _ _ (c .before .before .before .before .if2 .left), le-leb _ _ (c .before .before .if3 .taken), le-ltb _ _ (c .before .before .if3 .taken), c .before .timed-out .ensures, c .done2 .ensures)
+returns-3 c = simp (sym (c .before .before .before .before .before .before .interrupted .ensures) ∙ (c .before .before .before .before .before .if1 .left), ne-eqb _ _ (c .before .before .before .before .if2 .left), le-leb _ _ (c .before .before .if3 .taken), c .before .timed-out .ensures, c .done2 .ensures)
 
 cast-elapsed : tie.Need-cast-elapsed
 cast-elapsed c = search needs
@@ -54,7 +55,7 @@ done-requires-3 c κs = search needs
 
 returns-4 : tie.Need-returns-4
 unfolding selectionTime pick
-returns-4 c = simp (c .before .before .before .before .before .before .interrupted .ensures, sym (c .before .before .before .before .before .before .interrupted .ensures) ∙ (c .before .before .before .before .before .if1 .left), ne-eqb _ _ (c .before .before .before .before .if2 .left), lt-ltb _ _ (c .before .before .if3 .left), lt-leb _ _ (c .before .before .if3 .left), c .before .elapsed .ensures, c .done3 .ensures)
+returns-4 c = simp (sym (c .before .before .before .before .before .before .interrupted .ensures) ∙ (c .before .before .before .before .before .if1 .left), ne-eqb _ _ (c .before .before .before .before .if2 .left), lt-leb _ _ (c .before .before .if3 .left), c .before .elapsed .ensures, c .done3 .ensures)
 
 pub selection-time-spec : {M : Type 1} → statement M
 selection-time-spec =

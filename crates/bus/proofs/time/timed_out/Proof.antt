@@ -1,4 +1,5 @@
 -- `bus::time::timed_out` meets its contract: each way through the code is the definition's own way.
+-- Generated: tools/write-proof bus time/timed_out timedOut
 use Rattle.chip.specs.Events.{timedOut}
 use borrow.Author.Needs.{needs}
 use Rattle.bus.proofs.time.timed_out.Statement.{statement}

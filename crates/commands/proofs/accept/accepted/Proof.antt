@@ -1,4 +1,5 @@
 -- `commands::accept::accepted` meets its contract: each way through the code is the definition's own way.
+-- Generated: tools/write-proof commands accept/accepted accepted
 use Rattle.chip.specs.Commands.{accepted}
 use borrow.Author.Needs.{needs}
 use Rattle.commands.proofs.accept.accepted.Statement.{statement}

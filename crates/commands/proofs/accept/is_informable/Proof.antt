@@ -1,4 +1,5 @@
 -- `commands::accept::is_informable` meets its contract: each way through the code is the definition's own way.
+-- Generated: tools/write-proof commands accept/is_informable both
 use Rattle.chip.specs.Choice.{both}
 use borrow.Author.Needs.{needs}
 use Rattle.commands.proofs.accept.is_informable.Statement.{statement}

@@ -1,4 +1,5 @@
 -- `commands::accept::is_ready` meets its contract: each way through the code is the definition's own way.
+-- Generated: tools/write-proof commands accept/is_ready isReady pick both either
 use borrow.Author.Tests.{eq-eqb, ne-eqb}
 use Rattle.chip.specs.Commands.{isReady}
 use Rattle.chip.specs.Choice.{pick, both, either}

@@ -1,4 +1,5 @@
 -- `commands::act::direction_of` meets its contract: each way through the code is the definition's own way.
+-- Generated: tools/write-proof commands act/direction_of pick
 use mathlib.Core.Path.{sym, _∙_}
 use Rattle.chip.specs.Choice.{pick}
 use borrow.Author.Needs.{needs}

@@ -1,4 +1,5 @@
 -- `commands::act::disconnected` meets its contract: each way through the code is the definition's own way.
+-- Generated: tools/write-proof commands act/disconnected disconnected
 use Rattle.chip.specs.Commands.{disconnected}
 use borrow.Author.Needs.{needs}
 use Rattle.commands.proofs.act.disconnected.Statement.{statement}

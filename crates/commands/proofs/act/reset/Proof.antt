@@ -1,5 +1,6 @@
 -- `commands::act::reset` meets its contract: each way through the code is the definition's own way.
-use Rattle.chip.specs.Commands.{reset}
+-- Generated: tools/write-proof commands act/reset reset resetCode
+use Rattle.chip.specs.Commands.{reset, resetCode}
 use borrow.Author.Needs.{needs}
 use Rattle.commands.proofs.act.reset.Statement.{statement}
 use Rattle.commands.proofs.act.reset.Tie as tie
@@ -20,7 +21,7 @@ apart-requires : tie.Need-apart-requires
 apart-requires c κs = search needs
 
 returns : tie.Need-returns
-unfolding reset
+unfolding reset resetCode
 returns c = simp (c .before .before .before .before .cleared .ensures, c .before .before .before .empty .ensures, c .before .before .nothing-runs .ensures, c .before .own-identity .ensures, c .apart .ensures)
 
 pub reset-spec : {M : Type 1} → statement M

@@ -1,4 +1,5 @@
 -- `commands::act::selecting` meets its contract: each way through the code is the definition's own way.
+-- Generated: tools/write-proof commands act/selecting selecting
 use Rattle.chip.specs.Commands.{selecting}
 use borrow.Author.Needs.{needs}
 use Rattle.commands.proofs.act.selecting.Statement.{statement}

@@ -1,5 +1,5 @@
 -- `commands::act::way_of` meets its contract: each way through the code is the definition's own way.
-use Rattle.chip.specs.Choice.{pick}
+-- Generated: tools/write-proof commands act/way_of
 use borrow.Author.Needs.{needs}
 use Rattle.commands.proofs.act.way_of.Statement.{statement}
 use Rattle.commands.proofs.act.way_of.Tie as tie
@@ -14,10 +14,9 @@ direction-of-requires : tie.Need-direction-of-requires
 direction-of-requires c κs = search needs
 
 returns : tie.Need-returns
-returns c = search needs
+returns c = simp (c .enum-told .given .1)
 
 returns-2 : tie.Need-returns-2
-unfolding pick
 returns-2 c = simp (c .before .before .n .given .1, c .direction-of .ensures)
 
 pub way-of-spec : {M : Type 1} → statement M

@@ -16,11 +16,11 @@ array-copy-out-result c = search needs
 
 returns : tie.Need-returns
 unfolding entryOf table
-returns c = any-default table (c .before .before .args .c) _ leftOut (omega arith)
+returns c = any-default table (c .before .before .args .n) _ leftOut (omega arith)
 
 returns-2 : tie.Need-returns-2
 unfolding entryOf table
-returns-2 c = sym (List·getD-eq-default table leftOut {n = c .before .args .c} (omega arith))
+returns-2 c = sym (List·getD-eq-default table leftOut {n = c .before .args .n} (omega arith))
 
 pub entry-of-spec : {M : Type 1} → statement M
 entry-of-spec = tie.close (tie.spec mul-result array-copy-out-result returns returns-2)

@@ -1,4 +1,5 @@
 -- `commands::table::is_connected_or_disconnected` meets its contract: each way through the code is the definition's own way.
+-- Generated: tools/write-proof commands table/is_connected_or_disconnected either
 use mathlib.Core.Path.{sym, _∙_}
 use Rattle.chip.specs.Choice.{either}
 use borrow.Author.Needs.{needs}

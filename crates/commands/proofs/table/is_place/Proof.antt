@@ -1,5 +1,5 @@
 -- `commands::table::is_place` meets its contract: each way through the code is the definition's own way.
-use Rattle.chip.specs.Choice.{either}
+-- Generated: tools/write-proof commands table/is_place
 use borrow.Author.Needs.{needs}
 use Rattle.commands.proofs.table.is_place.Statement.{statement}
 use Rattle.commands.proofs.table.is_place.Tie as tie
@@ -35,23 +35,21 @@ is-connected-or-disconnected-requires : tie.Need-is-connected-or-disconnected-re
 is-connected-or-disconnected-requires c κs = search needs
 
 returns : tie.Need-returns
-returns c = search needs
+returns c = simp (c .enum-told .given .1)
 
 returns-2 : tie.Need-returns-2
-returns-2 c = search needs
+returns-2 c = simp (c .enum-told2 .given .1)
 
 returns-3 : tie.Need-returns-3
-returns-3 c = search needs
+returns-3 c = simp (c .before .enum-told3 .given .1, c .is-disconnected .ensures)
 
 returns-4 : tie.Need-returns-4
-returns-4 c = search needs
+returns-4 c = simp (c .before .enum-told4 .given .1, c .is-connected .ensures)
 
 returns-5 : tie.Need-returns-5
-unfolding either
 returns-5 c = simp (c .before .enum-told5 .given .1, c .is-connected-or-waiting .ensures)
 
 returns-6 : tie.Need-returns-6
-unfolding either
 returns-6 c = simp (c .before .enum-told6 .given .1, c .is-connected-or-disconnected .ensures)
 
 pub is-place-spec : {M : Type 1} → statement M

@@ -14,14 +14,14 @@ low-after-requires c κs = rw (state-is _ _ (c .before .before .before .before .
 pop-requires : tie.Need-pop-requires
 pop-requires c κs = search needs
 
-put-fifo-requires : tie.Need-put-fifo-requires
-put-fifo-requires c κs = search needs
+fifo-requires : tie.Need-fifo-requires
+fifo-requires c κs = search needs
 
-put-count-low-requires : tie.Need-put-count-low-requires
-put-count-low-requires c κs = search needs
+count-low-requires : tie.Need-count-low-requires
+count-low-requires c κs = search needs
 
-put-last-requires : tie.Need-put-last-requires
-put-last-requires c κs = search needs
+last-requires : tie.Need-last-requires
+last-requires c κs = search needs
 
 front-requires : tie.Need-front-requires
 front-requires c κs = search needs
@@ -36,7 +36,7 @@ same-length : tie.Need-same-length
 same-length c = search needs
 
 returns : tie.Need-returns
-returns c = sent-made _ (c .before .before .before .before .before .before .before .before .before .before .before .before .before .before .before .before .before .before .before .pre .0) _ _ _ _ _ _ _ _ _ (c .before .before .before .before .before .before .before .before .before .before .before .before .before .before .before .before .before .before .before .pre .1) (c .before .before .before .before .before .before .before .before .before .before .before .before .before .before .before .before .state .ensures) (c .before .before .before .before .before .before .before .before .before .before .before .before .before .before .low-after .ensures) (c .before .before .before .before .before .before .before .before .before .before .before .before .before .pop .ensures) (c .front .ensures) (c .before .before .before .before .before .before .before .before .before .before .before .put-fifo .ensures) (c .before .before .before .before .before .before .before .put-count-low .ensures) (c .before .before .before .put-last .ensures)
+returns c = sent-made _ (c .before .before .before .before .before .before .before .before .before .before .before .before .before .before .before .before .before .before .before .pre .0) _ _ _ _ _ _ _ _ _ (c .before .before .before .before .before .before .before .before .before .before .before .before .before .before .before .before .before .before .before .pre .1) (c .before .before .before .before .before .before .before .before .before .before .before .before .before .before .before .before .state .ensures) (c .before .before .before .before .before .before .before .before .before .before .before .before .before .before .low-after .ensures) (c .before .before .before .before .before .before .before .before .before .before .before .before .before .pop .ensures) (c .front .ensures) (c .before .before .before .before .before .before .before .before .before .before .before .fifo .ensures) (c .before .before .before .before .before .before .before .count-low .ensures) (c .before .before .before .last .ensures)
 
 pub byte-sent-spec : {M : Type 1} → statement M
 byte-sent-spec =
@@ -45,9 +45,9 @@ byte-sent-spec =
     state-requires
     low-after-requires
     pop-requires
-    put-fifo-requires
-    put-count-low-requires
-    put-last-requires
+    fifo-requires
+    count-low-requires
+    last-requires
     front-requires
     cast-result
     mul-result

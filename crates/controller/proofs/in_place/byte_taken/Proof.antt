@@ -11,14 +11,14 @@ state-requires c κs = search needs
 low-after-requires : tie.Need-low-after-requires
 low-after-requires c κs = rw (state-is _ _ (c .before .before .before .pre .0) (c .state .ensures)) (low-enough _ (c .before .before .before .pre .0) (c .before .before .before .pre .1))
 
-put-newest-requires : tie.Need-put-newest-requires
-put-newest-requires c κs = search needs
+newest-requires : tie.Need-newest-requires
+newest-requires c κs = search needs
 
-put-count-low-requires : tie.Need-put-count-low-requires
-put-count-low-requires c κs = search needs
+count-low-requires : tie.Need-count-low-requires
+count-low-requires c κs = search needs
 
-put-last-requires : tie.Need-put-last-requires
-put-last-requires c κs = search needs
+last-requires : tie.Need-last-requires
+last-requires c κs = search needs
 
 mul-result : tie.Need-mul-result
 mul-result c = search needs
@@ -27,7 +27,7 @@ same-length : tie.Need-same-length
 same-length c = search needs
 
 returns : tie.Need-returns
-returns c = taken-made _ (c .before .before .before .before .before .before .before .before .before .before .before .before .before .before .before .before .pre .0) _ _ _ _ _ _ (c .before .before .before .before .before .before .before .before .before .before .before .before .before .before .before .before .pre .1) (c .before .before .before .before .before .before .before .before .before .before .before .before .before .state .ensures) (c .before .before .before .before .before .before .before .before .before .before .before .before .low-after .ensures) (c .before .before .before .before .before .before .before .before .before .before .put-newest .ensures) (c .before .before .before .before .before .before .put-count-low .ensures) (c .before .before .put-last .ensures)
+returns c = taken-made _ (c .before .before .before .before .before .before .before .before .before .before .before .before .before .before .before .before .pre .0) _ _ _ _ _ _ (c .before .before .before .before .before .before .before .before .before .before .before .before .before .before .before .before .pre .1) (c .before .before .before .before .before .before .before .before .before .before .before .before .before .state .ensures) (c .before .before .before .before .before .before .before .before .before .before .before .before .low-after .ensures) (c .before .before .before .before .before .before .before .before .before .before .newest .ensures) (c .before .before .before .before .before .before .count-low .ensures) (c .before .before .last .ensures)
 
 pub byte-taken-spec : {M : Type 1} → statement M
 byte-taken-spec =
@@ -35,9 +35,9 @@ byte-taken-spec =
     (tie.spec
     state-requires
     low-after-requires
-    put-newest-requires
-    put-count-low-requires
-    put-last-requires
+    newest-requires
+    count-low-requires
+    last-requires
     mul-result
     same-length
     returns)

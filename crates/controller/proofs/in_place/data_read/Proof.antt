@@ -10,8 +10,8 @@ state-requires c κs = search needs
 pop-requires : tie.Need-pop-requires
 pop-requires c κs = search needs
 
-put-fifo-requires : tie.Need-put-fifo-requires
-put-fifo-requires c κs = search needs
+fifo-requires : tie.Need-fifo-requires
+fifo-requires c κs = search needs
 
 front-requires : tie.Need-front-requires
 front-requires c κs = search needs
@@ -26,7 +26,7 @@ same-length : tie.Need-same-length
 same-length c = search needs
 
 returns : tie.Need-returns
-returns c = data-given _ (c .before .before .before .before .before .before .before .before .before .before .pre .0) 0 _ _ _ _ (c .before .before .before .before .before .before .before .state .ensures) (c .before .before .before .before .before .pop .ensures) (c .front .ensures) (c .before .before .before .before .before .before .before .before .before .before .pre .1) (c .before .before .before .put-fifo .ensures)
+returns c = data-given _ (c .before .before .before .before .before .before .before .before .before .before .pre .0) 0 _ _ _ _ (c .before .before .before .before .before .before .before .state .ensures) (c .before .before .before .before .before .pop .ensures) (c .front .ensures) (c .before .before .before .before .before .before .before .before .before .before .pre .1) (c .before .before .before .fifo .ensures)
 
 pub data-read-spec : {M : Type 1} → statement M
 data-read-spec =
@@ -34,7 +34,7 @@ data-read-spec =
     (tie.spec
     state-requires
     pop-requires
-    put-fifo-requires
+    fifo-requires
     front-requires
     cast-result
     mul-result

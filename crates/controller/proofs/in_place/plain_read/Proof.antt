@@ -18,8 +18,8 @@ slice-read-value c = omega (arith, length-is _ (c .before .before .before .pre .
 wrapping-add-u8-requires : tie.Need-wrapping-add-u8-requires
 wrapping-add-u8-requires c κs = search needs
 
-put-pointer-requires : tie.Need-put-pointer-requires
-put-pointer-requires c κs = search needs
+pointer-requires : tie.Need-pointer-requires
+pointer-requires c κs = search needs
 
 cast-result : tie.Need-cast-result
 cast-result c = omega (arith, c .before .before .before .before .before .slice-known3 .given (getD (c .before .before .before .before .before .before .before .before .args .image .now) 25 0))
@@ -31,7 +31,7 @@ same-length : tie.Need-same-length
 same-length c = search needs
 
 returns : tie.Need-returns
-returns c = plain-given _ (c .before .before .before .before .before .before .before .before .pre .0) _ _ _ (c .before .before .before .before .before .before .before .before .pre .1) (c .before .before .before .before .wrapping-add-u8 .ensures) (c .before .before .put-pointer .ensures)
+returns c = plain-given _ (c .before .before .before .before .before .before .before .before .pre .0) _ _ _ (c .before .before .before .before .before .before .before .before .pre .1) (c .before .before .before .before .wrapping-add-u8 .ensures) (c .before .before .pointer .ensures)
 
 pub plain-read-spec : {M : Type 1} → statement M
 plain-read-spec =
@@ -41,7 +41,7 @@ plain-read-spec =
     cast-at
     slice-read-value
     wrapping-add-u8-requires
-    put-pointer-requires
+    pointer-requires
     cast-result
     mul-result
     same-length

@@ -12,28 +12,28 @@ byte-fits c = omega (arith, c .fits)
 slice-read-a : tie.Need-slice-read-a
 slice-read-a c = omega (arith, length-is _ (c .before .before .pre .0))
 
-put-register-requires : tie.Need-put-register-requires
-put-register-requires c κs = search needs
+register-requires : tie.Need-register-requires
+register-requires c κs = search needs
 
 wrapping-add-u8-requires : tie.Need-wrapping-add-u8-requires
 wrapping-add-u8-requires c κs = search needs
 
-put-pointer-requires : tie.Need-put-pointer-requires
-put-pointer-requires c κs = search needs
+pointer-requires : tie.Need-pointer-requires
+pointer-requires c κs = search needs
 
 same-length : tie.Need-same-length
 same-length c = search needs
 
 returns : tie.Need-returns
-returns c = plain-written _ (c .before .before .before .before .before .before .before .before .before .before .before .pre .0) _ _ _ _ (c .before .before .before .before .before .before .before .before .before .before .before .pre .1) (byte-fits (c .before .before .before .before .before .before .before .before .before .before .before)) (c .before .before .before .before .before .before .before .put-register .ensures) (c .before .before .before .before .wrapping-add-u8 .ensures) (c .before .before .put-pointer .ensures)
+returns c = plain-written _ (c .before .before .before .before .before .before .before .before .before .before .before .pre .0) _ _ _ _ (c .before .before .before .before .before .before .before .before .before .before .before .pre .1) (byte-fits (c .before .before .before .before .before .before .before .before .before .before .before)) (c .before .before .before .before .before .before .before .register .ensures) (c .before .before .before .before .wrapping-add-u8 .ensures) (c .before .before .pointer .ensures)
 
 pub plain-written-spec : {M : Type 1} → statement M
 plain-written-spec =
     tie.close
     (tie.spec
     slice-read-a
-    put-register-requires
+    register-requires
     wrapping-add-u8-requires
-    put-pointer-requires
+    pointer-requires
     same-length
     returns)

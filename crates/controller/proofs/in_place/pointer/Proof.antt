@@ -4,14 +4,14 @@ use borrow.Author.Needs.{needs}
 use Rattle.controller.proofs.in_place.pointer.Statement.{statement}
 use Rattle.controller.proofs.in_place.pointer.Tie as tie
 
-put-pointer-requires : tie.Need-put-pointer-requires
-put-pointer-requires c κs = search needs
+pointer-requires : tie.Need-pointer-requires
+pointer-requires c κs = search needs
 
 same-length : tie.Need-same-length
 same-length c = search needs
 
 returns : tie.Need-returns
-returns c = pointer-set-made _ (c .before .before .before .before .before .before .pre) _ _ _ (c .before .before .before .before .if1 .taken) (c .before .before .put-pointer .ensures)
+returns c = pointer-set-made _ (c .before .before .before .before .before .before .pre) _ _ _ (c .before .before .before .before .if1 .taken) (c .before .before .pointer .ensures)
 
 state-requires : tie.Need-state-requires
 state-requires c κs = search needs
@@ -32,7 +32,7 @@ pub pointer-spec : {M : Type 1} → statement M
 pointer-spec =
     tie.close
     (tie.spec
-    put-pointer-requires
+    pointer-requires
     same-length
     returns
     state-requires

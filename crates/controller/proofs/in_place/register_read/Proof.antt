@@ -1,5 +1,5 @@
 -- `controller::in_place::register_read` meets its contract.
-use Rattle.quick.specs.Quick.{isPlain, readsData}
+use Rattle.chip.specs.Moves.{isPlain, readsData}
 use Rattle.chip.specs.Registers.{accessed}
 use mathlib.Core.Bool.{false}
 use Rattle.controller.proofs.Steps.{said}

@@ -1,5 +1,5 @@
 -- `controller::in_place::register_written` meets its contract.
-use Rattle.quick.specs.Quick.{isPlain, writesData}
+use Rattle.chip.specs.Moves.{isPlain, writesData}
 use Rattle.chip.specs.Registers.{accessed}
 use mathlib.Core.Bool.{true}
 use Rattle.controller.proofs.Steps.{said, data-written}
@@ -25,14 +25,14 @@ returns c = search needs
 writes-data-requires : tie.Need-writes-data-requires
 writes-data-requires c κs = search needs
 
-put-newest-requires : tie.Need-put-newest-requires
-put-newest-requires c κs = search needs
+newest-requires : tie.Need-newest-requires
+newest-requires c κs = search needs
 
 same-length-2 : tie.Need-same-length-2
 same-length-2 c = search needs
 
 returns-2 : tie.Need-returns-2
-returns-2 c = data-written _ (c .before .before .before .before .before .before .before .before .before .before .before .pre) _ _ (said _ (c .before .before .before .before .before .before .before .before .before .before .before .pre) writesData _ _ (c .before .before .before .before .before .before .before .before .state .ensures) (c .before .before .before .before .before .writes-data .ensures) (c .before .before .before .before .if2 .taken)) (c .before .before .put-newest .ensures)
+returns-2 c = data-written _ (c .before .before .before .before .before .before .before .before .before .before .before .pre) _ _ (said _ (c .before .before .before .before .before .before .before .before .before .before .before .pre) writesData _ _ (c .before .before .before .before .before .before .before .before .state .ensures) (c .before .before .before .before .before .writes-data .ensures) (c .before .before .before .before .if2 .taken)) (c .before .before .newest .ensures)
 
 written-whole-requires : tie.Need-written-whole-requires
 written-whole-requires c κs = search needs
@@ -53,7 +53,7 @@ register-written-spec =
     same-length
     returns
     writes-data-requires
-    put-newest-requires
+    newest-requires
     same-length-2
     returns-2
     written-whole-requires

@@ -7,7 +7,7 @@ use Rattle.chip.specs.declared.State.{State}
 use Rattle.chip.specs.declared.Phase.{Phase}
 use Rattle.chip.specs.Phases.{phaseOf}
 use Rattle.chip.specs.Events.{requested}
-use Rattle.quick.specs.Quick.{takesByte, sendsByte}
+use Rattle.chip.specs.Moves.{takesByte, sendsByte}
 use Rattle.controller.proofs.Steps.{said, takes-is, sends-is, taken-request, sent-request}
 use borrow.Author.Needs.{needs}
 use Rattle.controller.proofs.in_place.request.Statement.{statement}

@@ -1,4 +1,5 @@
 -- `host::data_register::data_read` meets its contract: each way through the code is the definition's own way.
+-- Generated: tools/write-proof host data_register/data_read dataRead
 use Rattle.chip.specs.Registers.{dataRead}
 use borrow.Author.Needs.{needs}
 use Rattle.host.proofs.data_register.data_read.Statement.{statement}

@@ -1,9 +1,5 @@
 -- `host::data_register::data_read_by` meets its contract: each way through the code is the definition's own way.
-use Rattle.chip.specs.Choice.{pick, both}
-use Rattle.chip.specs.TransferInfo.{dbr}
-use Rattle.chip.specs.Fifo.{isEmpty, waits, hasRoom, front, pop}
-use Rattle.chip.specs.Count.{left}
-use Rattle.chip.specs.Interrupts.{settled, settledBy, raise, outgoingDropped}
+-- Generated: tools/write-proof host data_register/data_read_by
 use borrow.Author.Needs.{needs}
 use Rattle.host.proofs.data_register.data_read_by.Statement.{statement}
 use Rattle.host.proofs.data_register.data_read_by.Tie as tie
@@ -27,15 +23,12 @@ no-data-now-requires-2 : tie.Need-no-data-now-requires-2
 no-data-now-requires-2 c κs = search needs
 
 returns : tie.Need-returns
-unfolding pick dbr isEmpty both waits left hasRoom front settled settledBy raise outgoingDropped pop
 returns c = simp (c .before .enum-told .given .1, c .no-data-now .ensures)
 
 returns-2 : tie.Need-returns-2
-unfolding pick dbr isEmpty both waits left hasRoom front settled settledBy raise outgoingDropped pop
 returns-2 c = simp (c .before .enum-told2 .given .1, c .read-incoming .ensures)
 
 returns-3 : tie.Need-returns-3
-unfolding pick dbr isEmpty both waits left hasRoom front settled settledBy raise outgoingDropped pop
 returns-3 c = simp (c .before .enum-told3 .given .1, c .no-data-now2 .ensures)
 
 pub data-read-by-spec : {M : Type 1} → statement M

@@ -1,4 +1,5 @@
 -- `host::data_register::data_written` meets its contract: each way through the code is the definition's own way.
+-- Generated: tools/write-proof host data_register/data_written dataWritten
 use Rattle.chip.specs.Registers.{dataWritten}
 use borrow.Author.Needs.{needs}
 use Rattle.host.proofs.data_register.data_written.Statement.{statement}

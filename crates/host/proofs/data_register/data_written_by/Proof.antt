@@ -1,8 +1,5 @@
 -- `host::data_register::data_written_by` meets its contract: each way through the code is the definition's own way.
-use Rattle.chip.specs.Choice.{pick, both}
-use Rattle.chip.specs.TransferInfo.{dbr}
-use Rattle.chip.specs.Fifo.{isEmpty, waits, hasRoom, push}
-use Rattle.chip.specs.Count.{left}
+-- Generated: tools/write-proof host data_register/data_written_by
 use borrow.Author.Needs.{needs}
 use Rattle.host.proofs.data_register.data_written_by.Statement.{statement}
 use Rattle.host.proofs.data_register.data_written_by.Tie as tie
@@ -26,15 +23,12 @@ write-outgoing-requires : tie.Need-write-outgoing-requires
 write-outgoing-requires c κs = search needs
 
 returns : tie.Need-returns
-unfolding pick dbr isEmpty both waits left hasRoom push
 returns c = simp (c .before .enum-told .given .1, c .no-data-now .ensures)
 
 returns-2 : tie.Need-returns-2
-unfolding pick dbr isEmpty both waits left hasRoom push
 returns-2 c = simp (c .before .enum-told2 .given .1, c .no-data-now2 .ensures)
 
 returns-3 : tie.Need-returns-3
-unfolding pick dbr isEmpty both waits left hasRoom push
 returns-3 c = simp (c .before .enum-told3 .given .1, c .write-outgoing .ensures)
 
 pub data-written-by-spec : {M : Type 1} → statement M

@@ -1,4 +1,5 @@
 -- `host::data_register::read_incoming` meets its contract: each way through the code is the definition's own way.
+-- Generated: tools/write-proof host data_register/read_incoming pick
 use mathlib.Core.Path.{sym, _∙_}
 use Rattle.chip.specs.Choice.{pick}
 use borrow.Author.Needs.{needs}
@@ -25,7 +26,7 @@ done-requires c κs = search needs
 
 returns : tie.Need-returns
 unfolding pick
-returns c = simp (c .before .before .before .before .before .before .before .dbr .ensures, sym (c .before .before .before .before .before .before .before .dbr .ensures) ∙ (c .before .before .before .before .before .before .if1 .taken), c .before .before .before .before .front .ensures, c .before .before .before .pop .ensures, c .before .before .fifo .ensures, c .before .settled .ensures, c .done .ensures)
+returns c = simp (sym (c .before .before .before .before .before .before .before .dbr .ensures) ∙ (c .before .before .before .before .before .before .if1 .taken), c .before .before .before .before .front .ensures, c .before .before .before .pop .ensures, c .before .before .fifo .ensures, c .before .settled .ensures, c .done .ensures)
 
 no-data-now-requires : tie.Need-no-data-now-requires
 no-data-now-requires c κs = search needs

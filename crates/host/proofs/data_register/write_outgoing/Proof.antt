@@ -1,4 +1,5 @@
 -- `host::data_register::write_outgoing` meets its contract: each way through the code is the definition's own way.
+-- Generated: tools/write-proof host data_register/write_outgoing pick
 use mathlib.Core.Path.{sym, _∙_}
 use Rattle.chip.specs.Choice.{pick}
 use borrow.Author.Needs.{needs}

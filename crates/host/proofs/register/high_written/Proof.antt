@@ -1,4 +1,5 @@
 -- `host::register::high_written` meets its contract: each way through the code is the definition's own way.
+-- Generated: tools/write-proof host register/high_written highWritten
 use mathlib.Core.Path.{refl}
 use Rattle.chip.specs.Registers.{highWritten}
 use borrow.Author.Needs.{needs}

@@ -1,4 +1,5 @@
 -- `host::register::low_written` meets its contract: each way through the code is the definition's own way.
+-- Generated: tools/write-proof host register/low_written lowWritten
 use mathlib.Core.Path.{refl}
 use Rattle.chip.specs.Registers.{lowWritten}
 use borrow.Author.Needs.{needs}

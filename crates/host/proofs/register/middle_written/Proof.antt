@@ -1,4 +1,5 @@
 -- `host::register::middle_written` meets its contract: each way through the code is the definition's own way.
+-- Generated: tools/write-proof host register/middle_written middleWritten
 use mathlib.Core.Path.{refl}
 use Rattle.chip.specs.Registers.{middleWritten}
 use borrow.Author.Needs.{needs}

@@ -1,7 +1,8 @@
 -- `image::cases::direction_of` meets its contract: each way through the code is the definition's own way.
+-- Generated: tools/write-proof image cases/direction_of directionOf pick
 use borrow.Author.Tests.{eq-eqb, ne-eqb}
-use Rattle.chip.specs.Choice.{pick}
 use Rattle.chip.specs.Image.{directionOf}
+use Rattle.chip.specs.Choice.{pick}
 use Rattle.image.proofs.cases.direction_of.Statement.{statement}
 use Rattle.image.proofs.cases.direction_of.Tie as tie
 

@@ -3,7 +3,6 @@ use mathlib.Core.Path.{sym, ap, _∙_}
 use Prim.Native.Nat.{ℕ, _+_}
 use native.Mathlib.Omega.{arith}
 use Rattle.chip.specs.Image.{notedByte}
-use Rattle.image.proofs.Forms.{phase-below}
 use borrow.Author.Needs.{needs}
 use Rattle.image.proofs.cases.noted_byte.Statement.{statement}
 use Rattle.image.proofs.cases.noted_byte.Tie as tie
@@ -18,13 +17,13 @@ phase-number-requires : tie.Need-phase-number-requires
 phase-number-requires c κs = search needs
 
 add-result : tie.Need-add-result
-add-result c = omega (arith, c .phase-number .ensures, phase-below (c .before .before .p .given .0 .0))
+add-result c = omega (arith, c .phase-number .ensures .1)
 
 returns : tie.Need-returns
 returns c = search needs
 
 returns-2 : tie.Need-returns-2
-returns-2 c = ap (λ (n : ℕ). n + 1) (c .phase-number .ensures) ∙ sym (ap notedByte (c .before .before .p .given .1))
+returns-2 c = ap (λ (n : ℕ). n + 1) (c .phase-number .ensures .0) ∙ sym (ap notedByte (c .before .before .p .given .1))
 
 pub noted-byte-spec : {M : Type 1} → statement M
 noted-byte-spec =

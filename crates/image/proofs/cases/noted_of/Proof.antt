@@ -1,7 +1,8 @@
 -- `image::cases::noted_of` meets its contract: each way through the code is the definition's own way.
+-- Generated: tools/write-proof image cases/noted_of notedOf pick
 use borrow.Author.Tests.{eq-eqb, ne-eqb}
-use Rattle.chip.specs.Choice.{pick}
 use Rattle.chip.specs.Image.{notedOf}
+use Rattle.chip.specs.Choice.{pick}
 use borrow.Author.Needs.{needs}
 use Rattle.image.proofs.cases.noted_of.Statement.{statement}
 use Rattle.image.proofs.cases.noted_of.Tie as tie

@@ -1,7 +1,8 @@
 -- `image::cases::pending_of` meets its contract: each way through the code is the definition's own way.
+-- Generated: tools/write-proof image cases/pending_of pendingOf pick
 use borrow.Author.Tests.{eq-eqb, ne-eqb}
-use Rattle.chip.specs.Choice.{pick}
 use Rattle.chip.specs.Image.{pendingOf}
+use Rattle.chip.specs.Choice.{pick}
 use Rattle.image.proofs.cases.pending_of.Statement.{statement}
 use Rattle.image.proofs.cases.pending_of.Tie as tie
 
@@ -15,21 +16,11 @@ returns-2 c = simp (ne-eqb _ _ (c .before .if1 .left), eq-eqb _ _ (c .if2 .taken
 
 returns-3 : tie.Need-returns-3
 unfolding pendingOf pick
-returns-3 c =
-    simp (
-      ne-eqb _ _ (c .before .before .if1 .left),
-      ne-eqb _ _ (c .before .if2 .left),
-      eq-eqb _ _ (c .if3 .taken),
-    )
+returns-3 c = simp (ne-eqb _ _ (c .before .before .if1 .left), ne-eqb _ _ (c .before .if2 .left), eq-eqb _ _ (c .if3 .taken))
 
 returns-4 : tie.Need-returns-4
 unfolding pendingOf pick
-returns-4 c =
-    simp (
-      ne-eqb _ _ (c .before .before .if1 .left),
-      ne-eqb _ _ (c .before .if2 .left),
-      ne-eqb _ _ (c .if3 .left),
-    )
+returns-4 c = simp (ne-eqb _ _ (c .before .before .if1 .left), ne-eqb _ _ (c .before .if2 .left), ne-eqb _ _ (c .if3 .left))
 
 pub pending-of-spec : {M : Type 1} → statement M
 pending-of-spec = tie.close (tie.spec returns returns-2 returns-3 returns-4)

@@ -1,6 +1,6 @@
 -- `image::parts::count_of` meets its contract: shifts and ors of bytes are a sum.
 use native.Mathlib.Omega.{arith}
-use Rattle.image.proofs.Lists.{joined}
+use Rattle.chip.proofs.ImageLists.{joined}
 use Rattle.image.proofs.parts.count_of.Statement.{statement}
 use Rattle.image.proofs.parts.count_of.Tie as tie
 

@@ -1,21 +1,24 @@
--- `image::parts::fifo_of` meets its contract: each field is the byte that the definition reads.
-use Rattle.chip.specs.Image.{stateOf}
+-- `image::parts::fifo_of` meets its contract: the FIFO is the image's end.
+use mathlib.Core.Path.{_∙_}
+use Rattle.image.proofs.Ends.{got-end}
 use borrow.Author.Needs.{needs}
 use Rattle.image.proofs.parts.fifo_of.Statement.{statement}
 use Rattle.image.proofs.parts.fifo_of.Tie as tie
 
-slice-aggregate-get : tie.Need-slice-aggregate-get
-slice-aggregate-get c = search needs
+sub-get : tie.Need-sub-get
+sub-get c = search needs
+
+part-get-start : tie.Need-part-get-start
+part-get-start c = search needs
+
+part-get-end : tie.Need-part-get-end
+part-get-end c = search needs
 
 get-requires : tie.Need-get-requires
 get-requires c κs = search needs
 
-shared-slice-read-t8 : tie.Need-shared-slice-read-t8
-shared-slice-read-t8 c = search needs
-
 returns : tie.Need-returns
-unfolding stateOf
-returns c = simp (c .before .before .get .ensures)
+returns c = c .get .ensures ∙ got-end _ (c .before .before .before .pre)
 
 pub fifo-of-spec : {M : Type 1} → statement M
-fifo-of-spec = tie.close (tie.spec slice-aggregate-get get-requires shared-slice-read-t8 returns)
+fifo-of-spec = tie.close (tie.spec sub-get part-get-start part-get-end get-requires returns)

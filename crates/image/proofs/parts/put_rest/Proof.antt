@@ -6,14 +6,14 @@ use Rattle.chip.specs.Image.{middleBytes}
 use Rattle.image.proofs.parts.put_rest.Statement.{statement}
 use Rattle.image.proofs.parts.put_rest.Tie as tie
 
-connection-byte-requires : tie.Need-connection-byte-requires
-connection-byte-requires c κs = search needs
+connection-number-requires : tie.Need-connection-number-requires
+connection-number-requires c κs = search needs
 
 slice-write-image : tie.Need-slice-write-image
 slice-write-image c = search needs
 
-running-byte-requires : tie.Need-running-byte-requires
-running-byte-requires c κs = search needs
+running-number-requires : tie.Need-running-number-requires
+running-number-requires c κs = search needs
 
 slice-write-image-2 : tie.Need-slice-write-image-2
 slice-write-image-2 c = simp length-set (omega arith)
@@ -60,9 +60,6 @@ slice-write-image-9 c = simp length-set (omega arith)
 slice-write-image-10 : tie.Need-slice-write-image-10
 slice-write-image-10 c = simp length-set (omega arith)
 
-slice-write-image-11 : tie.Need-slice-write-image-11
-slice-write-image-11 c = simp length-set (omega arith)
-
 same-length : tie.Need-same-length
 same-length c = simp length-set
 
@@ -70,8 +67,8 @@ returns : tie.Need-returns
 unfolding middleBytes
 returns c =
     simp (
-      c .before .before .before .before .before .before .before .connection-byte .ensures,
-      c .before .before .before .before .before .before .running-byte .ensures,
+      c .before .before .before .before .before .before .before .connection-number .ensures,
+      c .before .before .before .before .before .before .running-number .ensures,
       c .before .before .before .before .before .direction-byte .ensures,
       c .before .before .before .before .bit-of .ensures,
       c .before .before .before .bit-of2 .ensures,
@@ -84,9 +81,9 @@ pub put-rest-spec : {M : Type 1} → statement M
 put-rest-spec =
     tie.close
     (tie.spec
-    connection-byte-requires
+    connection-number-requires
     slice-write-image
-    running-byte-requires
+    running-number-requires
     slice-write-image-2
     direction-byte-requires
     slice-write-image-3
@@ -102,6 +99,5 @@ put-rest-spec =
     slice-write-image-8
     slice-write-image-9
     slice-write-image-10
-    slice-write-image-11
     same-length
     returns)

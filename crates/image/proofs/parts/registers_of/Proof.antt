@@ -1,4 +1,5 @@
--- `image::parts::registers_of` meets its contract: each field is the byte that the definition reads.
+-- `image::parts::registers_of` meets its contract: each way through the code is the definition's own way.
+-- Generated: tools/write-proof image parts/registers_of stateOf
 use Rattle.chip.specs.Image.{stateOf}
 use borrow.Author.Needs.{needs}
 use Rattle.image.proofs.parts.registers_of.Statement.{statement}
@@ -31,28 +32,24 @@ shared-slice-read-t12 c = search needs
 shared-slice-read-t10 : tie.Need-shared-slice-read-t10
 shared-slice-read-t10 c = search needs
 
-shared-slice-read-t18 : tie.Need-shared-slice-read-t18
-shared-slice-read-t18 c = search needs
+shared-slice-read-t17 : tie.Need-shared-slice-read-t17
+shared-slice-read-t17 c = search needs
 
-shared-slice-read-t20 : tie.Need-shared-slice-read-t20
-shared-slice-read-t20 c = search needs
+shared-slice-read-t21 : tie.Need-shared-slice-read-t21
+shared-slice-read-t21 c = search needs
 
-shared-slice-read-t22 : tie.Need-shared-slice-read-t22
-shared-slice-read-t22 c = search needs
-
-shared-slice-read-t24 : tie.Need-shared-slice-read-t24
-shared-slice-read-t24 c = search needs
+shared-slice-read-t23 : tie.Need-shared-slice-read-t23
+shared-slice-read-t23 c = search needs
 
 shared-slice-read-t26 : tie.Need-shared-slice-read-t26
 shared-slice-read-t26 c = search needs
 
+shared-slice-read-t28 : tie.Need-shared-slice-read-t28
+shared-slice-read-t28 c = search needs
+
 returns : tie.Need-returns
 unfolding stateOf
-returns c =
-    simp (
-      c .before .before .before .before .before .before .before .before .before .before .before .before .before .get .ensures,
-      c .before .before .before .before .before .before .before .before .count-of .ensures,
-    )
+returns c = simp (c .before .before .before .before .before .before .before .before .before .before .before .before .before .get .ensures, c .before .before .before .before .before .before .before .before .count-of .ensures)
 
 pub registers-of-spec : {M : Type 1} → statement M
 registers-of-spec =
@@ -67,9 +64,9 @@ registers-of-spec =
     shared-slice-read-t8
     shared-slice-read-t12
     shared-slice-read-t10
-    shared-slice-read-t18
-    shared-slice-read-t20
-    shared-slice-read-t22
-    shared-slice-read-t24
+    shared-slice-read-t17
+    shared-slice-read-t21
+    shared-slice-read-t23
     shared-slice-read-t26
+    shared-slice-read-t28
     returns)

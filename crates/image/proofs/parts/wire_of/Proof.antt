@@ -1,4 +1,5 @@
--- `image::parts::wire_of` meets its contract: each field is the byte that the definition reads.
+-- `image::parts::wire_of` meets its contract: each way through the code is the definition's own way.
+-- Generated: tools/write-proof image parts/wire_of stateOf
 use Rattle.chip.specs.Image.{stateOf}
 use borrow.Author.Needs.{needs}
 use Rattle.image.proofs.parts.wire_of.Statement.{statement}
@@ -28,20 +29,15 @@ shared-slice-read-t6 c = search needs
 shared-slice-read-t12 : tie.Need-shared-slice-read-t12
 shared-slice-read-t12 c = search needs
 
-shared-slice-read-t15 : tie.Need-shared-slice-read-t15
-shared-slice-read-t15 c = search needs
+shared-slice-read-t17 : tie.Need-shared-slice-read-t17
+shared-slice-read-t17 c = search needs
 
-shared-slice-read-t18 : tie.Need-shared-slice-read-t18
-shared-slice-read-t18 c = search needs
+shared-slice-read-t20 : tie.Need-shared-slice-read-t20
+shared-slice-read-t20 c = search needs
 
 returns : tie.Need-returns
 unfolding stateOf
-returns c =
-    simp (
-      c .before .before .before .before .before .before .before .before .connection-of .ensures,
-      c .before .before .before .before .before .before .noted-of .ensures,
-      c .before .before .before .before .noted-of2 .ensures,
-    )
+returns c = simp (c .before .before .before .before .before .before .before .before .connection-of .ensures, c .before .before .before .before .before .before .noted-of .ensures, c .before .before .before .before .noted-of2 .ensures)
 
 pub wire-of-spec : {M : Type 1} → statement M
 wire-of-spec =
@@ -55,6 +51,6 @@ wire-of-spec =
     noted-of-requires-2
     shared-slice-read-t6
     shared-slice-read-t12
-    shared-slice-read-t15
-    shared-slice-read-t18
+    shared-slice-read-t17
+    shared-slice-read-t20
     returns)

@@ -1,5 +1,5 @@
 -- `state::answers::ignored` meets its contract: each way through the code is the definition's own way.
-
+-- Generated: tools/write-proof state answers/ignored
 use borrow.Author.Needs.{needs}
 use Rattle.state.proofs.answers.ignored.Statement.{statement}
 use Rattle.state.proofs.answers.ignored.Tie as tie

@@ -1,0 +1,11 @@
+-- What a call made on a state's image returns: the number of its answer, and the image of its state.
+use mathlib.Core.Path.{_≡_}
+use mathlib.Core.List.{List}
+use Prim.Native.Nat.{ℕ}
+use Rattle.chip.specs.declared.Reply.{Reply}
+use Rattle.chip.specs.Entries.{result}
+use Rattle.chip.specs.Image.{imageOf}
+
+pub record Returns (p : Reply) (n : ℕ) (after : List ℕ) : Type 0 where
+  pub number : n ≡ result (p .answer)
+  pub image : after ≡ imageOf (p .state)

@@ -1,0 +1,70 @@
+-- `select_and_transfer::take::save` meets its contract: each way through the code is the definition's own way.
+-- Generated: tools/write-proof select_and_transfer take/save takeSave unlessHalted unlessInterrupt pick
+use mathlib.Core.Path.{sym, _∙_}
+use Rattle.chip.specs.SelectAndTransfer.{takeSave}
+use Rattle.chip.specs.TransferInfo.{unlessHalted}
+use Rattle.chip.specs.Interrupts.{unlessInterrupt}
+use Rattle.chip.specs.Choice.{pick}
+use borrow.Author.Needs.{needs}
+use Rattle.select_and_transfer.proofs.take.save.Statement.{statement}
+use Rattle.select_and_transfer.proofs.take.save.Tie as tie
+
+halts-requires : tie.Need-halts-requires
+halts-requires c κs = search needs
+
+halted-requires : tie.Need-halted-requires
+halted-requires c κs = search needs
+
+returns : tie.Need-returns
+unfolding takeSave unlessHalted unlessInterrupt pick
+returns c = simp (sym (c .before .before .halts .ensures) ∙ (c .before .if1 .taken), c .halted .ensures)
+
+interrupted-requires : tie.Need-interrupted-requires
+interrupted-requires c κs = search needs
+
+held-requires : tie.Need-held-requires
+held-requires c κs = search needs
+
+returns-2 : tie.Need-returns-2
+unfolding takeSave unlessHalted unlessInterrupt pick
+returns-2 c = simp (sym (c .before .before .before .before .halts .ensures) ∙ (c .before .before .before .if1 .left), sym (c .before .before .interrupted .ensures) ∙ (c .before .if2 .taken), c .held .ensures)
+
+parity-noted-requires : tie.Need-parity-noted-requires
+parity-noted-requires c κs = search needs
+
+phase-requires : tie.Need-phase-requires
+phase-requires c κs = search needs
+
+ack-requires : tie.Need-ack-requires
+ack-requires c κs = search needs
+
+reported-requires : tie.Need-reported-requires
+reported-requires c κs = search needs
+
+ending-with-requires : tie.Need-ending-with-requires
+ending-with-requires c κs = search needs
+
+done-requires : tie.Need-done-requires
+done-requires c κs = search needs
+
+returns-3 : tie.Need-returns-3
+unfolding takeSave unlessHalted unlessInterrupt pick
+returns-3 c = simp (sym (c .before .before .before .before .before .before .before .before .before .halts .ensures) ∙ (c .before .before .before .before .before .before .before .before .if1 .left), sym (c .before .before .before .before .before .before .before .interrupted .ensures) ∙ (c .before .before .before .before .before .before .if2 .left), c .before .before .before .before .before .parity-noted .ensures, c .before .before .before .before .phase .ensures, c .before .before .before .ack .ensures, c .before .before .reported .ensures, c .before .ending-with .ensures, c .done .ensures)
+
+pub save-spec : {M : Type 1} → statement M
+save-spec =
+    tie.close
+    (tie.spec
+    halts-requires
+    halted-requires
+    returns
+    interrupted-requires
+    held-requires
+    returns-2
+    parity-noted-requires
+    phase-requires
+    ack-requires
+    reported-requires
+    ending-with-requires
+    done-requires
+    returns-3)

@@ -1,0 +1,26 @@
+-- `state::connections::connection_of` meets its contract: each way through the code is the definition's own way.
+-- Generated: tools/write-proof state connections/connection_of connectionOf pick
+use borrow.Author.Tests.{eq-eqb, ne-eqb}
+use Rattle.chip.specs.Connections.{connectionOf}
+use Rattle.chip.specs.Choice.{pick}
+use Rattle.state.proofs.connections.connection_of.Statement.{statement}
+use Rattle.state.proofs.connections.connection_of.Tie as tie
+
+returns : tie.Need-returns
+unfolding connectionOf pick
+returns c = simp (eq-eqb _ _ (c .if1 .taken))
+
+returns-2 : tie.Need-returns-2
+unfolding connectionOf pick
+returns-2 c = simp (ne-eqb _ _ (c .before .if1 .left), eq-eqb _ _ (c .if2 .taken))
+
+returns-3 : tie.Need-returns-3
+unfolding connectionOf pick
+returns-3 c = simp (ne-eqb _ _ (c .before .before .if1 .left), ne-eqb _ _ (c .before .if2 .left), eq-eqb _ _ (c .if3 .taken))
+
+returns-4 : tie.Need-returns-4
+unfolding connectionOf pick
+returns-4 c = simp (ne-eqb _ _ (c .before .before .if1 .left), ne-eqb _ _ (c .before .if2 .left), ne-eqb _ _ (c .if3 .left))
+
+pub connection-of-spec : {M : Type 1} → statement M
+connection-of-spec = tie.close (tie.spec returns returns-2 returns-3 returns-4)
