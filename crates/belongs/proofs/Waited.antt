@@ -152,19 +152,34 @@ record Ticks (n : ℕ) (s t : State) : Type 0 where
   most : t .wire .elapsed ≤ s .wire .elapsed + n
   least : eqb (s .registers .setup .timeout) 0 ≡ false → s .wire .elapsed + n ≤ t .wire .elapsed
 
+at-most : (a n : ℕ) → a ≤ a + n
+at-most a n = omega arith
+
+at-least : (a : ℕ) → a ≤ a
+at-least a = omega arith
+
 abbrev Grows : ℕ → State → Reply → Type 0
 Grows n s r = r .state .wire .connection ≡ Selecting → Ticks n s (r .state)
 
+-- a selection that timed out is over
+timed-out : {P : Type 0} (s : State) → E.timedOut s .wire .connection ≡ Selecting → P
+unfolding E.timedOut raise outgoingDropped
+timed-out s e = gone e refl
+
+selection-grows : (n : ℕ) (s : State) → Quiet s → Grows n s (E.selectionTime n s)
+unfolding E.selectionTime
+selection-grows n s q =
+    by-case (Grows n s) _ (λ i. clash i (ap isInterrupt q))
+    (λ i. by-case (Grows n s) _
+    (λ z e. record { timeout = refl; most = at-most (s .wire .elapsed) n; least = λ m. clash z m })
+    (λ z. by-pick (Grows n s) _ (timed-out s)
+    (λ e. record { timeout = refl; most = at-least (s .wire .elapsed + n); least = λ m. at-least (s .wire .elapsed + n) })))
+
 passed-grows : (n : ℕ) (s : State) → s .wire .connection ≡ Selecting → Quiet s → Grows n s (E.passed n s)
-unfolding E.passed E.selectionTime E.timedOut raise outgoingDropped
+unfolding E.passed
 passed-grows n s x q =
     by-case (Grows n s) _ (λ f. clash f (ap isEnding q))
-    (λ f. by-case (Grows n s) _
-    (λ y. by-case (Grows n s) _ (λ i. clash i (ap isInterrupt q))
-    (λ i. by-case (Grows n s) _ (λ z e. record { timeout = refl; most = omega arith; least = λ m. clash z m })
-    (λ z. by-pick (Grows n s) _ (λ e. gone e refl)
-    (λ e. record { timeout = refl; most = omega arith; least = λ m. omega arith }))))
-    (λ y. clash (ap isSelecting x) y))
+    (λ f. by-case (Grows n s) _ (λ y. selection-grows n s q) (λ y. clash (ap isSelecting x) y))
 
 time-grows : (n : ℕ) (s : State) → s .wire .connection ≡ Selecting → Quiet s → step (time n) s .state .wire .connection ≡ Selecting
     → Ticks (units (time n)) s (step (time n) s .state)

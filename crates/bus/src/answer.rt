@@ -6,7 +6,6 @@ use chip::Connection;
 use chip::Noted;
 use chip::Reply;
 use chip::State;
-use state::answers;
 use state::connections;
 use state::running;
 use state::set;

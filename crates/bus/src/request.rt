@@ -9,7 +9,6 @@ use chip::Noted;
 use chip::Phase;
 use chip::Reply;
 use chip::State;
-use state::answers;
 use state::connections;
 use state::running;
 use state::set;

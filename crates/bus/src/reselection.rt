@@ -6,7 +6,6 @@ ghost use Rattle.chip.specs.Events.{namesTarget, reselected, reselectedApart, r
 use crate::answer;
 use chip::Reply;
 use chip::State;
-use state::answers;
 use state::connections;
 use state::get;
 use state::running;

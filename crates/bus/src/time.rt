@@ -4,7 +4,6 @@ ghost use Rattle.chip.specs.Events.{passed, selectionTime, timedOut};
 use chip::Connection;
 use chip::Reply;
 use chip::State;
-use state::answers;
 use state::connections;
 use state::set;
 

@@ -8,7 +8,6 @@ ghost use Rattle.chip.specs.Commands.{carriedOut, commanded};
 use chip::Reply;
 use chip::Running;
 use chip::State;
-use state::answers;
 use state::set;
 
 fn carried_out(n: u8, single: bool, s: State) -> State

@@ -8,7 +8,6 @@ ghost use lib.ListN.{length};
 use blocks::Moved;
 use chip::Answer;
 use chip::Reply;
-use state::answers;
 
 // The answer's number in bits 0 to 7, its value from bit 8 up.
 pub fn result(a: Answer) -> u32

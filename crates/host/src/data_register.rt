@@ -4,7 +4,6 @@ ghost use Rattle.chip.specs.Registers.{dataRead, dataReadBy, dataWritten, dataW
 use chip::Direction;
 use chip::Reply;
 use chip::State;
-use state::answers;
 use state::get;
 use state::set;
 

@@ -11,7 +11,6 @@ ghost use lib.Dec.{eqb};
 use chip::Answer;
 use chip::Reply;
 use chip::State;
-use state::answers;
 use state::get;
 use state::set;
 

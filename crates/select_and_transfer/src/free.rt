@@ -5,7 +5,6 @@ use chip::Connection;
 use chip::Pending;
 use chip::Reply;
 use chip::State;
-use state::answers;
 use state::set;
 
 fn free_to_wait(s: State, t: State) -> Reply

@@ -27,7 +27,6 @@ use chip::Phase;
 use chip::Reply;
 use chip::Stage;
 use chip::State;
-use state::answers;
 use state::get;
 use state::set;
 

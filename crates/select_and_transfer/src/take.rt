@@ -10,7 +10,6 @@ use chip::Noted;
 use chip::Phase;
 use chip::Reply;
 use chip::State;
-use state::answers;
 use state::set;
 
 pub fn unexpected(p: Phase, s: State) -> Reply

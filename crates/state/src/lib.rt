@@ -1,6 +1,5 @@
-// The state's fields read and set, a fresh state, connections and running commands by their numbers, and answers.
+// The state's fields read and set, a fresh state, and connections and running commands by their numbers.
 // Each function is the definition of the same name in chip's specs/.
-pub mod answers;
 pub mod connections;
 pub mod fresh;
 pub mod get;

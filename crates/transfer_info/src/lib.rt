@@ -24,7 +24,6 @@ use chip::Noted;
 use chip::Phase;
 use chip::Reply;
 use chip::State;
-use state::answers;
 use state::get;
 use state::set;
 

@@ -1,10 +1,10 @@
 // Replies: an answer with the new state (chip's specs/Answers.antt).
 ghost use mathlib.Core.Path.{_≡_};
 ghost use Rattle.chip.specs.Answers.{number, value, says, done, reports, held, outOfPlace, reselectionIgnored, noDataNow, ignored};
-use crate::set;
 use chip::Answer;
 use chip::Reply;
 use chip::State;
+use state::set;
 
 pub fn number(a: Answer) -> u8
     ensures { λ r. ⌜ r ≡ number a ⌝ }
