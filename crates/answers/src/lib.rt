@@ -1,5 +1,6 @@
 // Replies: an answer with the new state (chip's specs/Answers.antt).
 ghost use mathlib.Core.Path.{_≡_};
+ghost use Rattle.chip.specs.Entries.{result};
 ghost use Rattle.chip.specs.Answers.{number, value, says, done, reports, held, outOfPlace, reselectionIgnored, noDataNow, ignored};
 use chip::Answer;
 use chip::Reply;
@@ -36,6 +37,13 @@ pub fn value(a: Answer) -> u8
         Answer::NoDataNow => 0xff,
         Answer::Reported => 0,
     }
+}
+
+// The answer's number in bits 0 to 7, its value from bit 8 up.
+pub fn result(a: Answer) -> u32
+    ensures { λ r. ⌜ r ≡ result a ⌝ }
+{
+    (number(a) as u32) + 256 * (value(a) as u32)
 }
 
 pub fn says(answer: Answer, state: State) -> Reply

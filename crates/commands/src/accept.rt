@@ -6,7 +6,6 @@ ghost use Rattle.chip.specs.Commands.{accepted, isPlace, isReady, isSome, isTwo
 ghost use Rattle.chip.specs.Connections.{isConnected};
 ghost use Rattle.chip.specs.Interrupts.{busy, inEnding};
 ghost use Rattle.chip.specs.SelectAndTransfer.{hasSize, isResumable};
-use crate::table;
 use chip::Entry;
 use chip::Noted;
 use chip::State;
@@ -80,7 +79,7 @@ fn is_in_place(e: Entry, s: State) -> bool
     ensures { λ r. ⌜ r ≡ isPlace (e .place) (s .wire .connection) ⌝ }
 {
     let place = e.place;
-    table::is_place(place, s)
+    command_list::is_place(place, s)
 }
 
 // e is the table's entry for code c.
@@ -97,7 +96,7 @@ fn is_level_two(e: Entry) -> bool
     ensures { λ r. ⌜ r ≡ isTwo (e .level) ⌝ }
 {
     let level = e.level;
-    table::is_two(level)
+    command_list::is_two(level)
 }
 
 // Level II, or not valid now.

@@ -1,7 +1,6 @@
 // Commands: accepting, ignoring, 40h, and what each does. The definitions of chip's specs/Commands.antt.
 pub mod accept;
 pub mod act;
-pub mod table;
 
 ghost use mathlib.Core.Path.{_≡_};
 ghost use Rattle.chip.specs.Commands.{carriedOut, commanded};
@@ -49,7 +48,7 @@ pub fn commanded(b: u8, s: State) -> Reply
 {
     let n = lines::code_of(b);
     // "A constant table of 34 entries, level and valid connection, looked up before a command is accepted."
-    let e = table::entry_of(n);
+    let e = command_list::entry_of(n);
     if n == 0x00 {
         return answers::done(0, act::reset(b, s));
     }

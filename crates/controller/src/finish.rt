@@ -9,20 +9,13 @@ use blocks::Moved;
 use chip::Answer;
 use chip::Reply;
 
-// The answer's number in bits 0 to 7, its value from bit 8 up.
-pub fn result(a: Answer) -> u32
-    ensures { λ r. ⌜ r ≡ result a ⌝ }
-{
-    (answers::number(a) as u32) + 256 * (answers::value(a) as u32)
-}
-
 pub fn finish(r: Reply, image: &mut [u8]) -> u32
     ensures { λ n. ⌜ (n ≡ result (r .answer)) × (now (image .exit) ≡ pick (eqb (length (now (image .entry))) imageLength) (imageOf (r .state)) (now (image .entry))) ⌝ }
 {
     let s = r.state;
     let a = r.answer;
     image::write(s, image);
-    result(a)
+    answers::result(a)
 }
 
 // The same for a block move: Done, with the number moved as its value.
@@ -32,5 +25,5 @@ pub fn moved(m: Moved, image: &mut [u8]) -> u32
     let s = m.state;
     let number = m.number;
     image::write(s, image);
-    result(Answer::Done(number))
+    answers::result(Answer::Done(number))
 }

@@ -1,4 +1,4 @@
-// Calls made in the image itself: those that short.rt names store only the bytes that change. Every other call is made on the
+// Calls made in the image itself: those that room moves names store only the bytes that change. Every other call is made on the
 // state, and the whole image is written.
 ghost use lib.Dec.{eqb};
 ghost use Prim.Native.Nat.{_-_, _%_, _≤_};
@@ -14,7 +14,6 @@ ghost use Rattle.controller.specs.Returns.{Returns};
 ghost use Rattle.image.specs.IsImage.{IsImage};
 ghost use Rattle.chip.specs.Moves.{isPlain, readsData, sendsByte, takesByte};
 use crate::finish;
-use crate::short;
 use bus::request;
 use chip::Phase;
 use chip::State;
@@ -39,7 +38,7 @@ pub(crate) fn auxiliary(image: &mut [u8]) -> u32
     let s = image::state(image);
     let r = host::auxiliary_read(s);
     let a = r.answer;
-    finish::result(a)
+    answers::result(a)
 }
 
 // One of registers 00 to 16h is read. "The 8-bit address pointer uses the supplied wrapping add at every address but three."
@@ -108,10 +107,10 @@ pub(crate) fn register_read(image: &mut [u8]) -> u32
     ensures { λ r. ⌜ Returns (accessed false 0 (stateOf (now (image .entry)))) r (now (image .exit)) ⌝ }
 {
     let s = image::state(image);
-    if short::is_plain(s) {
+    if moves::is_plain(s) {
         return plain_read(image);
     }
-    if short::reads_data(s) {
+    if moves::reads_data(s) {
         return data_read(image);
     }
     read_whole(image)
@@ -122,10 +121,10 @@ pub(crate) fn register_written(byte: u8, image: &mut [u8]) -> u32
     ensures { λ r. ⌜ Returns (accessed true byte (stateOf (now (image .entry)))) r (now (image .exit)) ⌝ }
 {
     let s = image::state(image);
-    if short::is_plain(s) {
+    if moves::is_plain(s) {
         return plain_written(byte, image);
     }
-    if short::writes_data(s) {
+    if moves::writes_data(s) {
         store::newest(byte, image);
         return 0;
     }
@@ -174,7 +173,7 @@ fn takes(phase: u8, bad: bool, s: State) -> bool
         if bad {
             return false;
         }
-        return short::takes_byte(s);
+        return moves::takes_byte(s);
     }
     false
 }
@@ -183,7 +182,7 @@ fn sends(phase: u8, s: State) -> bool
     ensures { λ r. ⌜ r ≡ both (eqb phase 0) (sendsByte s) ⌝ }
 {
     if phase == 0 {
-        return short::sends_byte(s);
+        return moves::sends_byte(s);
     }
     false
 }

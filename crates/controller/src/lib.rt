@@ -4,7 +4,6 @@
 mod driven; // driven.rt: what a board drives on the bus
 mod finish; // finish.rt: what every entry does last
 mod in_place; // in_place.rt: calls that store only the bytes that change
-mod short; // short.rt: which calls those are
 
 use bus::answer;
 use bus::free;
