@@ -60,6 +60,7 @@ test:
 	@mkdir -p build
 	@rt fmt --check
 	@rt ci > build/ci.log 2>&1 || { cat build/ci.log; exit 1; }
+	@tests/edits
 	@$(MAKE) --no-print-directory outside
 	@$(MAKE) --no-print-directory targets
 	@cat build/ci.log
