@@ -20,7 +20,6 @@ use Rattle.chip.specs.declared.Registers.{Registers}
 use Rattle.chip.specs.declared.Status.{Status}
 use Rattle.chip.specs.declared.Transfer.{Transfer}
 use Rattle.chip.specs.declared.Noted.{Noted}
-use Rattle.chip.specs.declared.Identity.{Identity}
 use Rattle.chip.specs.declared.Connection.the-variants.{Disconnected}
 use Rattle.chip.specs.declared.Fifo.{Fifo}
 use Rattle.chip.specs.declared.Wire.{Wire}
@@ -33,7 +32,7 @@ use Rattle.story.specs.Hosts.{Access, put, get, Note, note, Host, Program}
 use Rattle.story.specs.Schedule.{Target, Scene, replanned, access, bus, due, attended, isNone, onward, calling, Brought, now, later}
 use Rattle.story.proofs.Opening.{scenes}
 use Rattle.served.proofs.Opening.{steps}
-use Rattle.served.proofs.Parts.{theStatus, theTransfer, theState, theHost, theWire, theTarget, theScene, stored-is}
+use Rattle.served.proofs.Parts.{Kept, theStatus, theTransfer, theState, theHost, theWire, theTarget, theScene, stored-is}
 
 abbrev gives : ℕ → State → Outcome
 gives v s = record { answer = Done v; state = s; lent = [] }
@@ -99,7 +98,7 @@ module _ (g : Program) where
   attend-at {c} e a = attend c (subst (λ (z : Scene). Attends z) (sym e) a)
 
   -- before the selection the Target calls in vain
-  pub bus-idle : (r : Registers) (st : Status) (q : Fifo) (tr : Transfer) (at ak : Bool) (rp ls : Noted) (id : Identity) (el : ℕ) (h : Host) (pa : ℕ)
+  pub bus-idle : (r : Registers) (st : Status) (q : Fifo) (tr : Transfer) (at ak : Bool) (rp ls : Noted) (id : Kept) (el : ℕ) (h : Host) (pa : ℕ)
       (t : List Item)
       → bus step g (theScene (theState r st q tr (theWire Disconnected at ak rp ls id el)) h (theTarget calling pa [] t))
       ≡ theScene (theState r st q tr (theWire Disconnected at ak rp ls id el)) h (theTarget calling pa [] t)

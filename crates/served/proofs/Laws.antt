@@ -22,7 +22,7 @@ use Rattle.story.specs.Story.{Item, item, items, Way, inward, outward, wayPhase
 use Rattle.story.specs.Hosts.{Note, Host, sentBy, byTransfer, byPhases}
 use Rattle.story.specs.Schedule.{calling, Scene, Move}
 use Rattle.story.specs.Demand.{InTime, bytesOf, notesAt, statusHeld, countHeld, countBytes, incomingData, opening, Promise, sceneA, sceneB, Demand3, Demand}
-use Rattle.served.proofs.Parts.{theStatus, theTransfer, theWire, theState, theHost, theTarget, theScene, before}
+use Rattle.served.proofs.Parts.{keptOf, theStatus, theTransfer, theWire, theState, theHost, theTarget, theScene, before}
 use Rattle.served.proofs.Small.{no-bytes}
 use Rattle.served.proofs.Start.{Apart, apart, transfer-plays, phases-plays}
 use Rattle.served.proofs.Phases.{segsOf, segs, told, good, notes-some, bytes-append}
@@ -39,14 +39,14 @@ module _ (s : State) (a : Apart s) where
   plain =
       theState (s .registers) (theStatus (s .status .pointer) (s .status .code) (s .status .command) (s .status .lci) (s .status .pe) Nothing) (s .fifo)
       (theTransfer Idle (s .transfer .direction) (s .transfer .single))
-      (theWire Disconnected (s .wire .handshake .atn) false (s .wire .seen .reported) (s .wire .seen .last) (s .wire .identity) (s .wire .elapsed))
+      (theWire Disconnected (s .wire .handshake .atn) false (s .wire .seen .reported) (s .wire .seen .last) (keptOf s) (s .wire .elapsed))
 
   is-plain : s ≡ plain
   is-plain =
       λ x.
       theState (s .registers) (theStatus (s .status .pointer) (s .status .code) (s .status .command) (s .status .lci) (s .status .pe) (a .pending x)) (s .fifo)
       (theTransfer (a .running x) (s .transfer .direction) (s .transfer .single))
-      (theWire (a .connection x) (s .wire .handshake .atn) (a .ack x) (s .wire .seen .reported) (s .wire .seen .last) (s .wire .identity) (s .wire .elapsed))
+      (theWire (a .connection x) (s .wire .handshake .atn) (a .ack x) (s .wire .seen .reported) (s .wire .seen .last) (keptOf s) (s .wire .elapsed))
 
 module _ {s₀ : State} (j : Job) (pr : Proper s₀ j) (s : State) (a : Apart s) (patience : ℕ) (t : InTime (j .timeout) patience) where
   spared : (j .timeout ≡ 0) ⊎ (0 + patience ≤ j .timeout)

@@ -1,5 +1,5 @@
 -- A scene by its parts, what the host is about to do, and the lists of accesses that it goes through.
---   theState .. theScene   a scene by its parts
+--   theState .. theScene   a scene by its parts; Kept, keptOf: what scenes hand on unasked
 --   Aimed     where the pointer is set for the host's next access, it is that access's address
 --   Polls     the host looks, or makes the access that a look asked for, which is still as good as when it looked
 --   Tale, onto   the story as what has crossed and what is still to cross, and one item more crossed
@@ -42,13 +42,20 @@ theStatus a c m l e p = record { pointer = a; code = c; command = m; lci = l; pe
 abbrev pub theTransfer : Running → Direction → Bool → Transfer
 theTransfer r d o = record { running = r; direction = d; single = o }
 
-abbrev pub theWire : Connection → Bool → Bool → Noted → Noted → Identity → ℕ → Wire
+-- what no scene asks for and no step here changes. A field more of that kind stands here, and no scene has to name it
+pub record Kept : Type 0 where
+  pub identity : Identity
+
+abbrev pub keptOf : State → Kept
+keptOf s = record { identity = s .wire .identity }
+
+abbrev pub theWire : Connection → Bool → Bool → Noted → Noted → Kept → ℕ → Wire
 theWire c a k r l i e =
     record {
       connection = c;
       handshake = record { atn = a; ack = k };
       seen = record { reported = r; last = l };
-      identity = i;
+      identity = i .identity;
       elapsed = e;
     }
 

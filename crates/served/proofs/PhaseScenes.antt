@@ -16,7 +16,6 @@ use Rattle.chip.specs.Choice.{pick}
 use Rattle.chip.specs.Phases.{phaseNumber, comesIn, isMessageIn, samePhase}
 use Rattle.chip.specs.declared.Registers.{Registers}
 use Rattle.chip.specs.declared.Fifo.{Fifo}
-use Rattle.chip.specs.declared.Identity.{Identity}
 use Rattle.chip.specs.declared.Connection.the-variants.{Disconnected, Selecting, Connected}
 use Rattle.chip.specs.declared.Running.the-variants.{Idle, SelectWithAtn, TransferInfo}
 use Rattle.chip.specs.declared.Pending.the-variants.{Nothing, Interrupt, Ending}
@@ -30,7 +29,7 @@ use Rattle.chip.specs.Ok.{Bytes}
 use Rattle.story.specs.Story.{Item, item, items, Job}
 use Rattle.story.specs.Hosts.{Access, put, Note, note, countFor, giveFor}
 use Rattle.story.specs.Schedule.{calling, talking, away, Scene}
-use Rattle.served.proofs.Parts.{theRegisters, theStatus, theTransfer, theWire, theState, theHost, theTarget, theScene, Aimed, Polls, Plays, Tale}
+use Rattle.served.proofs.Parts.{Kept, theRegisters, theStatus, theTransfer, theWire, theState, theHost, theTarget, theScene, Aimed, Polls, Plays, Tale}
 use Rattle.served.proofs.Time.{Spared}
 use Rattle.served.proofs.Going.{Going}
 use Rattle.served.proofs.Queue.{Lined}
@@ -109,7 +108,7 @@ module _ (j : Job) (whole : List Item) (total : List Note) where
 
   -- before a phase moves
   pub data Begins : Scene → Type 0 where
-    loads : {c m x pa el : ℕ} {l e at o f : Bool} {q : Fifo} {d : Direction} {rp ls : Noted} {id : Identity} {td : List Access} {r : Registers}
+    loads : {c m x pa el : ℕ} {l e at o f : Bool} {q : Fifo} {d : Direction} {rp ls : Noted} {id : Kept} {td : List Access} {r : Registers}
         {n : List Note} {g : List Seg}
         → Plays (put 0x18 0x06 ∷ []) Ready td r n
         → Aimed td f x
@@ -121,7 +120,7 @@ module _ (j : Job) (whole : List Item) (total : List Note) where
         → Begins
         (theScene (theState r (theStatus x c m l e Nothing) q (theTransfer Idle d o) (theWire Disconnected at false rp ls id el))
         (theHost td f MessageOut [] [] n) (theTarget calling pa [] (flat g)))
-    seeks : {c m x pa el ow ct tm lu ph sy ct2 ds sr : ℕ} {l e at o f : Bool} {q : Fifo} {d : Direction} {rp ls : Noted} {id : Identity}
+    seeks : {c m x pa el ow ct tm lu ph sy ct2 ds sr : ℕ} {l e at o f : Bool} {q : Fifo} {d : Direction} {rp ls : Noted} {id : Kept}
         {td : List Access} {cd : List ℕ} {g : List Seg}
         → Polls false false true td f x
         → Quiet d q
@@ -133,7 +132,7 @@ module _ (j : Job) (whole : List Item) (total : List Note) where
         (theScene
         (theState (theRegisters ow ct tm cd lu ph sy ct2 ds sr) (theStatus x c m l e Nothing) q (theTransfer SelectWithAtn d o)
         (theWire Selecting at false rp ls id el)) (theHost td f MessageOut [] [] []) (theTarget calling pa [] (flat g)))
-    greets : {m x pa el : ℕ} {l e at o f : Bool} {q : Fifo} {d : Direction} {ls : Noted} {id : Identity} {td : List Access} {r : Registers} {g : List Seg}
+    greets : {m x pa el : ℕ} {l e at o f : Bool} {q : Fifo} {d : Direction} {ls : Noted} {id : Kept} {td : List Access} {r : Registers} {g : List Seg}
         → Polls true false true td f x
         → Quiet d q
         → Good g
@@ -142,7 +141,7 @@ module _ (j : Job) (whole : List Item) (total : List Note) where
         → Begins
         (theScene (theState r (theStatus x 0x11 m l e Interrupt) q (theTransfer Idle d o) (theWire Connected at false NoPhase ls id el))
         (theHost td f MessageOut [] [] []) (theTarget talking pa [] (flat g)))
-    waits : {c m x pa el : ℕ} {l e at o f : Bool} {q : Fifo} {d : Direction} {ls : Noted} {id : Identity} {td : List Access} {r : Registers} {g : List Seg}
+    waits : {c m x pa el : ℕ} {l e at o f : Bool} {q : Fifo} {d : Direction} {ls : Noted} {id : Kept} {td : List Access} {r : Registers} {g : List Seg}
         → Polls false false true td f x
         → Quiet d q
         → Good g
@@ -151,7 +150,7 @@ module _ (j : Job) (whole : List Item) (total : List Note) where
         → Begins
         (theScene (theState r (theStatus x c m l e Nothing) q (theTransfer Idle d o) (theWire Connected at false NoPhase ls id el))
         (theHost td f MessageOut [] [] []) (theTarget talking pa [] (flat g)))
-    named : {c m x pa el ow ct tm lu ph sy lf ds sr : ℕ} {l e at o f : Bool} {q : Fifo} {d : Direction} {ls : Noted} {id : Identity}
+    named : {c m x pa el ow ct tm lu ph sy lf ds sr : ℕ} {l e at o f : Bool} {q : Fifo} {d : Direction} {ls : Noted} {id : Kept}
         {td : List Access} {cd v bs y : List ℕ} {g : List Seg} {p cr : Phase} {log got : List Item} {n : List Note}
         → Polls true false true td f x
         → Quiet d q
@@ -165,7 +164,7 @@ module _ (j : Job) (whole : List Item) (total : List Note) where
         (theScene
         (theState (theRegisters ow ct tm cd lu ph sy lf ds sr) (theStatus x c m l e Interrupt) q (theTransfer Idle d o)
         (theWire Connected at false (Was p) ls id el)) (theHost td f cr v got n) (theTarget talking pa log (flat (seg p bs y ∷ g))))
-    coded : {c m x pa el : ℕ} {l e at o f : Bool} {q : Fifo} {d : Direction} {ls : Noted} {id : Identity} {td : List Access} {r : Registers}
+    coded : {c m x pa el : ℕ} {l e at o f : Bool} {q : Fifo} {d : Direction} {ls : Noted} {id : Kept} {td : List Access} {r : Registers}
         {bs y : List ℕ} {g : List Seg} {p : Phase} {log got : List Item} {n : List Note}
         → Plays (put 0x18 0x20 ∷ []) (Counted p (notesAfter (seg p bs y ∷ g))) td r n
         → Aimed td f x
@@ -179,7 +178,7 @@ module _ (j : Job) (whole : List Item) (total : List Note) where
 
   -- a phase goes out
   pub data Sends : Scene → Type 0 where
-    sends : {c m x pa el ow ct tm lu ph sy ds sr : ℕ} {l e at f : Bool} {q : Fifo} {ls : Noted} {id : Identity} {td : List Access} {cd y : List ℕ}
+    sends : {c m x pa el ow ct tm lu ph sy ds sr : ℕ} {l e at f : Bool} {q : Fifo} {ls : Noted} {id : Kept} {td : List Access} {cd y : List ℕ}
         {g : List Seg} {p : Phase} {log got : List Item} {n : List Note} (fifo rest give : List ℕ)
         → Polls false false (canSend fifo give) td f x
         → comesIn p ≡ false
@@ -196,7 +195,7 @@ module _ (j : Job) (whole : List Item) (total : List Note) where
 
   -- a phase comes in
   pub data Takes : Scene → Type 0 where
-    takes : {c m x pa el ow ct tm lu ph sy ds sr : ℕ} {l e at f : Bool} {q : Fifo} {ls : Noted} {id : Identity} {td : List Access} {cd v : List ℕ}
+    takes : {c m x pa el ow ct tm lu ph sy ds sr : ℕ} {l e at f : Bool} {q : Fifo} {ls : Noted} {id : Kept} {td : List Access} {cd v : List ℕ}
         {g : List Seg} {p : Phase} {log got : List Item} {n : List Note} (fifo rest y : List ℕ)
         → Polls false (isSome fifo) true td f x
         → comesIn p ≡ true
@@ -214,7 +213,7 @@ module _ (j : Job) (whole : List Item) (total : List Note) where
 
   -- the last byte is to come
   pub data Closes : Scene → Type 0 where
-    closes : {c m x pa el ow ct tm lu ph sy ds sr b : ℕ} {l e at f : Bool} {q : Fifo} {ls : Noted} {id : Identity} {td : List Access} {cd v : List ℕ}
+    closes : {c m x pa el ow ct tm lu ph sy ds sr b : ℕ} {l e at f : Bool} {q : Fifo} {ls : Noted} {id : Kept} {td : List Access} {cd v : List ℕ}
         {log got : List Item} {n : List Note}
         → Polls false false true td f x
         → Lined q []
@@ -230,7 +229,7 @@ module _ (j : Job) (whole : List Item) (total : List Note) where
 
   -- another phase waits until the bytes are read out
   pub data Drains : Scene → Type 0 where
-    drains : {c k m x pa el ow ct tm lu ph sy lf ds sr b : ℕ} {l e at o f : Bool} {q : Fifo} {ls : Noted} {id : Identity} {td : List Access}
+    drains : {c k m x pa el ow ct tm lu ph sy lf ds sr b : ℕ} {l e at o f : Bool} {q : Fifo} {ls : Noted} {id : Kept} {td : List Access}
         {cd v bs y : List ℕ} {g : List Seg} {p cr : Phase} {log got : List Item} {n : List Note} (fifo : List ℕ)
         → Polls false true true td f x
         → comesIn cr ≡ true
@@ -248,7 +247,7 @@ module _ (j : Job) (whole : List Item) (total : List Note) where
 
   -- Message In is over
   pub data Ends : Scene → Type 0 where
-    pauses : {c m x pa el b : ℕ} {l e at o f : Bool} {q : Fifo} {rp ls : Noted} {id : Identity} {td : List Access} {r : Registers} {v : List ℕ}
+    pauses : {c m x pa el b : ℕ} {l e at o f : Bool} {q : Fifo} {rp ls : Noted} {id : Kept} {td : List Access} {r : Registers} {v : List ℕ}
         {log got : List Item} {n : List Note}
         → Polls false true true td f x
         → Lined q (b ∷ [])
@@ -260,7 +259,7 @@ module _ (j : Job) (whole : List Item) (total : List Note) where
         (theScene
         (theState r (theStatus x c m l e (Ending 0x20)) q (theTransfer TransferInfo In o) (theWire Connected at true rp ls id el))
         (theHost td f MessageIn v got n) (theTarget talking pa log []))
-    paused : {m x pa el : ℕ} {l e at o f : Bool} {q : Fifo} {d : Direction} {rp ls : Noted} {id : Identity} {td : List Access} {r : Registers} {v : List ℕ}
+    paused : {m x pa el : ℕ} {l e at o f : Bool} {q : Fifo} {d : Direction} {rp ls : Noted} {id : Kept} {td : List Access} {r : Registers} {v : List ℕ}
         {log got : List Item} {n : List Note} {hp : Phase}
         → Polls true false true td f x
         → Quiet d q
@@ -272,7 +271,7 @@ module _ (j : Job) (whole : List Item) (total : List Note) where
         (theScene
         (theState r (theStatus x 0x20 m l e Interrupt) q (theTransfer Idle d o) (theWire Connected at true rp ls id el)) (theHost td f hp v got n)
         (theTarget talking pa log []))
-    negates : {c m x pa el : ℕ} {l e at o f : Bool} {q : Fifo} {d : Direction} {rp ls : Noted} {id : Identity} {r : Registers} {v : List ℕ}
+    negates : {c m x pa el : ℕ} {l e at o f : Bool} {q : Fifo} {d : Direction} {rp ls : Noted} {id : Kept} {r : Registers} {v : List ℕ}
         {log got : List Item} {n : List Note} {hp : Phase}
         → Aimed (put 0x18 0x03 ∷ []) f x
         → Quiet d q
@@ -284,7 +283,7 @@ module _ (j : Job) (whole : List Item) (total : List Note) where
         (theScene
         (theState r (theStatus x c m l e Nothing) q (theTransfer Idle d o) (theWire Connected at true rp ls id el))
         (theHost (put 0x18 0x03 ∷ []) f hp v got n) (theTarget talking pa log []))
-    calm : {c m x pa el : ℕ} {l e at o f : Bool} {q : Fifo} {d : Direction} {rp ls : Noted} {id : Identity} {td : List Access} {r : Registers} {v : List ℕ}
+    calm : {c m x pa el : ℕ} {l e at o f : Bool} {q : Fifo} {d : Direction} {rp ls : Noted} {id : Kept} {td : List Access} {r : Registers} {v : List ℕ}
         {log got : List Item} {n : List Note} {hp : Phase}
         → Polls false false true td f x
         → Quiet d q
@@ -296,7 +295,7 @@ module _ (j : Job) (whole : List Item) (total : List Note) where
         (theScene
         (theState r (theStatus x c m l e Nothing) q (theTransfer Idle d o) (theWire Connected at false rp ls id el)) (theHost td f hp v got n)
         (theTarget talking pa log []))
-    gone : {m x pa el : ℕ} {l e at o f : Bool} {q : Fifo} {d : Direction} {rp ls : Noted} {id : Identity} {td : List Access} {r : Registers} {v : List ℕ}
+    gone : {m x pa el : ℕ} {l e at o f : Bool} {q : Fifo} {d : Direction} {rp ls : Noted} {id : Kept} {td : List Access} {r : Registers} {v : List ℕ}
         {log got : List Item} {n : List Note} {hp : Phase}
         → Late td f x
         → Quiet d q
@@ -308,7 +307,7 @@ module _ (j : Job) (whole : List Item) (total : List Note) where
         (theScene
         (theState r (theStatus x 0x85 m l e Interrupt) q (theTransfer Idle d o) (theWire Disconnected at false rp ls id el)) (theHost td f hp v got n)
         (theTarget away pa log []))
-    rests : {c m x pa el : ℕ} {l e at o f : Bool} {q : Fifo} {d : Direction} {rp ls : Noted} {id : Identity} {td : List Access} {r : Registers} {v : List ℕ}
+    rests : {c m x pa el : ℕ} {l e at o f : Bool} {q : Fifo} {d : Direction} {rp ls : Noted} {id : Kept} {td : List Access} {r : Registers} {v : List ℕ}
         {log got : List Item} {n : List Note} {hp : Phase}
         → Polls false false true td f x
         → Quiet d q

@@ -16,7 +16,6 @@ use Rattle.chip.specs.Phases.{comesIn, isMessageIn}
 use Rattle.chip.specs.declared.Registers.{Registers}
 use Rattle.chip.specs.declared.Transfer.{Transfer}
 use Rattle.chip.specs.declared.Fifo.{Fifo}
-use Rattle.chip.specs.declared.Identity.{Identity}
 use Rattle.chip.specs.declared.Connection.the-variants.{Disconnected, Connected}
 use Rattle.chip.specs.declared.Running.the-variants.{Idle, TransferInfo}
 use Rattle.chip.specs.Interrupts.{isEnding}
@@ -33,7 +32,7 @@ use Rattle.story.specs.Hosts.{Access, put, Note, Host, giveFor, serving, byPhas
 use Rattle.story.specs.Schedule.{calling, talking, away, Scene, bus, Brought, now}
 use Rattle.story.proofs.Opening.{scenes}
 use Rattle.served.proofs.Opening.{steps}
-use Rattle.served.proofs.Parts.{theRegisters, theStatus, theTransfer, theWire, theState, theHost, theTarget, theScene, Plays, over, puts, gets}
+use Rattle.served.proofs.Parts.{Kept, theRegisters, theStatus, theTransfer, theWire, theState, theHost, theTarget, theScene, Plays, over, puts, gets}
 use Rattle.served.proofs.Queue.{Lined, none-lined, empty-none, empty-some, room-is, waits-is, front-is, fits, popped, pushed}
 use Rattle.served.proofs.Small.{asked-is, Quiet, unfixed, drained}
 use Rattle.served.proofs.Accesses.{put-done, get-done, wait-at, at-once, Attends, attend, attend-at, bus-idle, none-left}
@@ -49,7 +48,7 @@ module _ (j : Job) (whole : List Item) (total : List Note) where
   B c = Brought step (byPhases j) c
 
   -- a phase that is reported is Held while no command runs, its code read or not
-  bus-named : (r : Registers) (x c m : ℕ) (l e : Bool) (pd : Pending) (q : Fifo) (d : Direction) (o at : Bool) (ls : Noted) (id : Identity) (el : ℕ) (h : Host)
+  bus-named : (r : Registers) (x c m : ℕ) (l e : Bool) (pd : Pending) (q : Fifo) (d : Direction) (o at : Bool) (ls : Noted) (id : Kept) (el : ℕ) (h : Host)
       (pa : ℕ) (log : List Item) {p : Phase} {bs y : List ℕ} {g : List Seg}
       → isEnding pd ≡ false
       → Good j whole total (seg p bs y ∷ g)
@@ -64,7 +63,7 @@ module _ (j : Job) (whole : List Item) (total : List Note) where
       rw (phase-small ph, shown-byte (comesIn ph) b (f .bytes 0), i, phase-round ph, same-phase ph)
 
   -- a phase goes out
-  give-on : {c m x pa el ow ct tm lu ph sy ds sr : ℕ} {l e at : Bool} {q : Fifo} {ls : Noted} {id : Identity} {cd y : List ℕ}
+  give-on : {c m x pa el ow ct tm lu ph sy ds sr : ℕ} {l e at : Bool} {q : Fifo} {ls : Noted} {id : Kept} {cd y : List ℕ}
       {t : List Item} {p : Phase} {log got : List Item} {n : List Note} (z b : ℕ) (rest give : List ℕ)
       → comesIn p ≡ false
       → Lined q []
@@ -85,7 +84,7 @@ module _ (j : Job) (whole : List Item) (total : List Note) where
             (rw (phase-small p, phase-round p, e, same-phase p, ne-eqb (suc (length rest) + length y) 0 (omega arith), empty-some (pushed z k (omega arith)))))));
       }
 
-  send-on : {c m x pa el ow ct tm lu ph sy ds sr : ℕ} {l e at : Bool} {q : Fifo} {ls : Noted} {id : Identity} {cd y : List ℕ}
+  send-on : {c m x pa el ow ct tm lu ph sy ds sr : ℕ} {l e at : Bool} {q : Fifo} {ls : Noted} {id : Kept} {cd y : List ℕ}
       {t : List Item} {p : Phase} {log got : List Item} {n : List Note} (fifo : List ℕ) (b : ℕ) (rest give : List ℕ)
       → comesIn p ≡ false
       → Lined q fifo
@@ -104,7 +103,7 @@ module _ (j : Job) (whole : List Item) (total : List Note) where
       (give-on z b rest give e k s))
 
   -- a phase comes in
-  read-on : {c m x pa el ow ct tm lu ph sy ds sr : ℕ} {l e at : Bool} {q : Fifo} {ls : Noted} {id : Identity} {cd v : List ℕ}
+  read-on : {c m x pa el ow ct tm lu ph sy ds sr : ℕ} {l e at : Bool} {q : Fifo} {ls : Noted} {id : Kept} {cd v : List ℕ}
       {t : List Item} {p : Phase} {log got : List Item} {n : List Note} (z u : ℕ) (fifo : List ℕ) (b : ℕ) (rest y : List ℕ)
       → comesIn p ≡ true
       → isMessageIn p ≡ false
@@ -136,7 +135,7 @@ module _ (j : Job) (whole : List Item) (total : List Note) where
             )))));
       }
 
-  take-on : {c m x pa el ow ct tm lu ph sy ds sr : ℕ} {l e at : Bool} {q : Fifo} {ls : Noted} {id : Identity} {cd v : List ℕ}
+  take-on : {c m x pa el ow ct tm lu ph sy ds sr : ℕ} {l e at : Bool} {q : Fifo} {ls : Noted} {id : Kept} {cd v : List ℕ}
       {t : List Item} {p : Phase} {log got : List Item} {n : List Note} (fifo : List ℕ) (b : ℕ) (rest y : List ℕ)
       → comesIn p ≡ true
       → isMessageIn p ≡ false
@@ -156,7 +155,7 @@ module _ (j : Job) (whole : List Item) (total : List Note) where
       (true-or-false (ltb (length (z ∷ u ∷ fifo)) 12))
 
   -- the phase's count is loaded, and Transfer Info written
-  command-on : {c m x pa el : ℕ} {l e at o f : Bool} {q : Fifo} {d : Direction} {ls : Noted} {id : Identity} {r : Registers}
+  command-on : {c m x pa el : ℕ} {l e at o f : Bool} {q : Fifo} {d : Direction} {ls : Noted} {id : Kept} {r : Registers}
       {bs y : List ℕ} {g : List Seg} {p : Phase} {log got : List Item} {n rest : List Note}
       → Counted j whole total p rest r n
       → Good j whole total (seg p bs y ∷ g)
@@ -183,7 +182,7 @@ module _ (j : Job) (whole : List Item) (total : List Note) where
             (true-or-false (comesIn p));
       }
 
-  code-on : {c m x pa el : ℕ} {l e at o f : Bool} {q : Fifo} {d : Direction} {ls : Noted} {id : Identity} {td : List Access} {r : Registers}
+  code-on : {c m x pa el : ℕ} {l e at o f : Bool} {q : Fifo} {d : Direction} {ls : Noted} {id : Kept} {td : List Access} {r : Registers}
       {bs y : List ℕ} {g : List Seg} {p : Phase} {log got : List Item} {n rest : List Note}
       → Plays (put 0x18 0x20 ∷ []) (Counted j whole total p rest) td r n
       → Good j whole total (seg p bs y ∷ g)
@@ -200,7 +199,7 @@ module _ (j : Job) (whole : List Item) (total : List Note) where
       (get-done r c m l e Nothing q d o _ refl (byPhases j) ph (giveFor j ph) got n _ x f td k a u) (code-on p w)
 
   -- a code that names a phase is read
-  name-on : {c m x pa el : ℕ} {l e at o : Bool} {q : Fifo} {d : Direction} {ls : Noted} {id : Identity} {r : Registers}
+  name-on : {c m x pa el : ℕ} {l e at o : Bool} {q : Fifo} {d : Direction} {ls : Noted} {id : Kept} {r : Registers}
       {v bs y : List ℕ} {g : List Seg} {p cr : Phase} {log got : List Item} {n : List Note}
       → Names c p
       → Good j whole total (seg p bs y ∷ g)
@@ -216,7 +215,7 @@ module _ (j : Job) (whole : List Item) (total : List Note) where
       }
 
   -- in an ending every phase is Held
-  bus-ending : (r : Registers) (x c k m : ℕ) (l e : Bool) (q : Fifo) (tr : Transfer) (at ak : Bool) (rp ls : Noted) (id : Identity) (el : ℕ) (h : Host) (pa : ℕ) (log : List Item)
+  bus-ending : (r : Registers) (x c k m : ℕ) (l e : Bool) (q : Fifo) (tr : Transfer) (at ak : Bool) (rp ls : Noted) (id : Kept) (el : ℕ) (h : Host) (pa : ℕ) (log : List Item)
       {p : Phase} {bs y : List ℕ} {g : List Seg}
       → Good j whole total (seg p bs y ∷ g)
       → bus step (byPhases j)
@@ -228,7 +227,7 @@ module _ (j : Job) (whole : List Item) (total : List Note) where
       rw (phase-small ph, shown-byte (comesIn ph) b (f .bytes 0))
 
   -- the bytes that came in are read out, then the code is raised
-  drain-on : {c k m x pa el ow ct tm lu ph sy lf ds sr b : ℕ} {l e at o : Bool} {q : Fifo} {ls : Noted} {id : Identity}
+  drain-on : {c k m x pa el ow ct tm lu ph sy lf ds sr b : ℕ} {l e at o : Bool} {q : Fifo} {ls : Noted} {id : Kept}
       {cd v bs y : List ℕ} {g : List Seg} {p cr : Phase} {log got : List Item} {n : List Note} (fifo : List ℕ)
       → comesIn cr ≡ true
       → Lined q (b ∷ fifo)
@@ -256,14 +255,14 @@ module _ (j : Job) (whole : List Item) (total : List Note) where
       }
 
   -- the selection
-  select-on : {c m x pa el : ℕ} {l e at o f : Bool} {q : Fifo} {d : Direction} {rp ls : Noted} {id : Identity} {r : Registers} {n : List Note} {t : List Item}
+  select-on : {c m x pa el : ℕ} {l e at o f : Bool} {q : Fifo} {d : Direction} {rp ls : Noted} {id : Kept} {r : Registers} {n : List Note} {t : List Item}
       → B
       (theScene (theState r (theStatus x c m l e Nothing) q (theTransfer Idle d o) (theWire Disconnected at false rp ls id el))
       (theHost (put 0x18 0x06 ∷ []) f MessageOut [] [] n) (theTarget calling pa [] t))
   unfolding steps
   select-on = attend (byPhases j) _ (record { asks = refl; on = now refl })
 
-  load-on : {c m x pa el : ℕ} {l e at o f : Bool} {q : Fifo} {d : Direction} {rp ls : Noted} {id : Identity} {td : List Access} {r : Registers}
+  load-on : {c m x pa el : ℕ} {l e at o f : Bool} {q : Fifo} {d : Direction} {rp ls : Noted} {id : Kept} {td : List Access} {r : Registers}
       {n : List Note} {t : List Item}
       → Plays (put 0x18 0x06 ∷ []) (Ready j whole total) td r n
       → B
@@ -279,7 +278,7 @@ module _ (j : Job) (whole : List Item) (total : List Note) where
       (get-done r c m l e Nothing q d o _ refl (byPhases j) MessageOut [] [] n _ x f td k a u) (load-on p)
 
   -- the first phase is reported, after 11h
-  wait-on : {c m x pa el : ℕ} {l e at o : Bool} {q : Fifo} {d : Direction} {ls : Noted} {id : Identity} {r : Registers} {g : List Seg} {n : List Note}
+  wait-on : {c m x pa el : ℕ} {l e at o : Bool} {q : Fifo} {d : Direction} {ls : Noted} {id : Kept} {r : Registers} {g : List Seg} {n : List Note}
       → Quiet d q
       → Good j whole total g
       → Noting j whole total n (notesAfter g)
@@ -294,7 +293,7 @@ module _ (j : Job) (whole : List Item) (total : List Note) where
   wait-on (drained z) (more {p = ph} {b = b} f a d g) t =
       attend (byPhases j) _ (rw (phase-small ph, shown-byte (comesIn ph) b (f .bytes 0), phase-round ph) (name-on S.asked (more f a d g) t))
 
-  greet-on : {m x pa el : ℕ} {l e at o : Bool} {q : Fifo} {d : Direction} {ls : Noted} {id : Identity} {r : Registers} {g : List Seg} {n : List Note}
+  greet-on : {m x pa el : ℕ} {l e at o : Bool} {q : Fifo} {d : Direction} {ls : Noted} {id : Kept} {r : Registers} {g : List Seg} {n : List Note}
       → Quiet d q
       → Good j whole total g
       → Noting j whole total n (notesAfter g)
@@ -304,7 +303,7 @@ module _ (j : Job) (whole : List Item) (total : List Note) where
   unfolding steps
   greet-on k w t = record { asks = rw asked-is; on = rw asked-is (rw (heard-11 j) (wait-on k w t)) }
 
-  greet-held : {m x pa el : ℕ} {l e at o : Bool} {q : Fifo} {d : Direction} {ls : Noted} {id : Identity} {r : Registers} {g : List Seg} {n : List Note}
+  greet-held : {m x pa el : ℕ} {l e at o : Bool} {q : Fifo} {d : Direction} {ls : Noted} {id : Kept} {r : Registers} {g : List Seg} {n : List Note}
       → Quiet d q
       → Good j whole total g
       → Noting j whole total n (notesAfter g)
@@ -317,7 +316,7 @@ module _ (j : Job) (whole : List Item) (total : List Note) where
       attend (byPhases j) _ (rw (phase-small ph, shown-byte (comesIn ph) b (f .bytes 0)) (greet-on k (more f a d g) t))
 
   -- a phase is over: another is offered
-  next-on : {c m x pa el ow ct tm lu ph sy ds sr : ℕ} {l e at : Bool} {q : Fifo} {ls : Noted} {id : Identity} {cd v : List ℕ}
+  next-on : {c m x pa el ow ct tm lu ph sy ds sr : ℕ} {l e at : Bool} {q : Fifo} {ls : Noted} {id : Kept} {cd v : List ℕ}
       {g : List Seg} {p : Phase} {log got : List Item} {n : List Note} (y : List ℕ)
       → After j whole total p g
       → Noting j whole total n (notesOf p (length y) ++ notesAfter g)
@@ -331,7 +330,7 @@ module _ (j : Job) (whole : List Item) (total : List Note) where
       (rw (phase-small q, shown-byte (comesIn q) c (good-byte g), phase-round q, d)
       (name-on (S.over (eqb (0 + length y) 0)) g (noting-on (seg q (c ∷ cs) y′ ∷ gs) p (length y) t)))
 
-  turn-on : {c m x pa el ow ct tm lu ph sy ds sr : ℕ} {l e at : Bool} {q : Fifo} {ls : Noted} {id : Identity} {cd v : List ℕ}
+  turn-on : {c m x pa el ow ct tm lu ph sy ds sr : ℕ} {l e at : Bool} {q : Fifo} {ls : Noted} {id : Kept} {cd v : List ℕ}
       {g : List Seg} {p : Phase} {log got : List Item} {n : List Note} (fifo y : List ℕ)
       → comesIn p ≡ true
       → Lined q fifo
@@ -352,7 +351,7 @@ module _ (j : Job) (whole : List Item) (total : List Note) where
       (drain-on fifo e k (S.over (eqb (0 + length y) 0)) g (noting-on (seg q (c ∷ cs) y′ ∷ gs) p (length y) t)))
 
   -- Message In is over
-  pause-on : {m x pa el : ℕ} {l e at o : Bool} {q : Fifo} {d : Direction} {rp ls : Noted} {id : Identity} {r : Registers} {v : List ℕ}
+  pause-on : {m x pa el : ℕ} {l e at o : Bool} {q : Fifo} {d : Direction} {rp ls : Noted} {id : Kept} {r : Registers} {v : List ℕ}
       {log got : List Item} {n : List Note} {hp : Phase}
       → B
       (theScene (theState r (theStatus x 0x20 m l e Interrupt) q (theTransfer Idle d o) (theWire Connected at true rp ls id el))
@@ -360,7 +359,7 @@ module _ (j : Job) (whole : List Item) (total : List Note) where
   unfolding steps
   pause-on = attend (byPhases j) _ (record { asks = rw asked-is; on = rw asked-is (rw (heard-20 j) (now refl)) })
 
-  close-on : {c m x pa el b : ℕ} {l e at o : Bool} {q : Fifo} {rp ls : Noted} {id : Identity} {r : Registers} {v : List ℕ}
+  close-on : {c m x pa el b : ℕ} {l e at o : Bool} {q : Fifo} {rp ls : Noted} {id : Kept} {r : Registers} {v : List ℕ}
       {log got : List Item} {n : List Note}
       → Lined q (b ∷ [])
       → B
@@ -374,7 +373,7 @@ module _ (j : Job) (whole : List Item) (total : List Note) where
         on = rw (asked-is, empty-some k) (rw (empty-some k, front-is k, empty-none (popped k)) pause-on);
       })
 
-  rest-on : {c m x pa el : ℕ} {l e at o : Bool} {q : Fifo} {d : Direction} {rp ls : Noted} {id : Identity} {r : Registers} {v : List ℕ}
+  rest-on : {c m x pa el : ℕ} {l e at o : Bool} {q : Fifo} {d : Direction} {rp ls : Noted} {id : Kept} {r : Registers} {v : List ℕ}
       {log got : List Item} {n : List Note} {hp : Phase}
       → Quiet d q
       → B
@@ -384,7 +383,7 @@ module _ (j : Job) (whole : List Item) (total : List Note) where
   rest-on unfixed = at-once (byPhases j) _ (rw asked-is)
   rest-on (drained f) = at-once (byPhases j) _ (rw (asked-is, f))
 
-  free-on : {m x pa el : ℕ} {l e at o : Bool} {q : Fifo} {d : Direction} {rp ls : Noted} {id : Identity} {r : Registers} {v : List ℕ}
+  free-on : {m x pa el : ℕ} {l e at o : Bool} {q : Fifo} {d : Direction} {rp ls : Noted} {id : Kept} {r : Registers} {v : List ℕ}
       {log got : List Item} {n : List Note} {hp : Phase}
       → Quiet d q
       → B
@@ -393,7 +392,7 @@ module _ (j : Job) (whole : List Item) (total : List Note) where
   unfolding steps
   free-on k = attend (byPhases j) _ (record { asks = rw asked-is; on = rw asked-is (rw (heard-85 j) (rest-on k)) })
 
-  late-on : {m x pa el : ℕ} {l e at o f : Bool} {q : Fifo} {d : Direction} {rp ls : Noted} {id : Identity} {r : Registers} {v : List ℕ}
+  late-on : {m x pa el : ℕ} {l e at o f : Bool} {q : Fifo} {d : Direction} {rp ls : Noted} {id : Kept} {r : Registers} {v : List ℕ}
       {log got : List Item} {n : List Note} {hp : Phase}
       → Quiet d q
       → B

@@ -14,7 +14,6 @@ use Rattle.chip.specs.Lines.{isOn}
 use Rattle.chip.specs.SelectAndTransfer.{sizeOf, stageOf}
 use Rattle.chip.specs.declared.Registers.{Registers}
 use Rattle.chip.specs.declared.Fifo.{Fifo}
-use Rattle.chip.specs.declared.Identity.{Identity}
 use Rattle.chip.specs.declared.Stage.the-variants.{Body, AfterData}
 use Rattle.chip.specs.declared.Connection.the-variants.{Disconnected, Selecting, Connected}
 use Rattle.chip.specs.declared.Running.the-variants.{Idle, SelectAndTransferWithAtn}
@@ -29,7 +28,7 @@ use Rattle.story.specs.Story.{Item, item, items, Way, inward, outward, wayPhase
 use Rattle.story.specs.Hosts.{Access, put, Note, note}
 use Rattle.story.specs.Schedule.{calling, talking, away, Scene}
 use Rattle.story.specs.Demand.{incomingData}
-use Rattle.served.proofs.Parts.{theRegisters, theStatus, theTransfer, theWire, theState, theHost, theTarget, theScene, Aimed, Polls, Plays, Tale}
+use Rattle.served.proofs.Parts.{Kept, theRegisters, theStatus, theTransfer, theWire, theState, theHost, theTarget, theScene, Aimed, Polls, Plays, Tale}
 use Rattle.served.proofs.Time.{Spared}
 use Rattle.served.proofs.Going.{Going}
 use Rattle.served.proofs.Queue.{Lined}
@@ -92,7 +91,7 @@ module _ (j : Job) where
   storyOf w = item MessageOut (identifies j) ∷ (items CommandOut (j .command) ++ (items (wayPhase w) (j .moved) ++ close j))
 
   pub data Reach : Scene → Type 0 where
-    loads : {c m x pa el : ℕ} {l e at o f : Bool} {q : Fifo} {d : Direction} {rp ls : Noted} {id : Identity} {td : List Access} {r : Registers}
+    loads : {c m x pa el : ℕ} {l e at o f : Bool} {q : Fifo} {d : Direction} {rp ls : Noted} {id : Kept} {td : List Access} {r : Registers}
         {w : Way} {v : List ℕ} {n : List Note}
         → Plays (put 0x18 0x08 ∷ []) Ready td r n
         → Aimed td f x
@@ -102,7 +101,7 @@ module _ (j : Job) where
         → Reach
         (theScene (theState r (theStatus x c m l e Nothing) q (theTransfer Idle d o) (theWire Disconnected at false rp ls id el))
         (theHost td f (wayPhase w) v [] n) (theTarget calling pa [] (storyOf w)))
-    seeks : {c m x pa el ow ct tm lu sy ds sr : ℕ} {l e at f : Bool} {rp ls : Noted} {id : Identity} {td : List Access} {cd v : List ℕ} {w : Way}
+    seeks : {c m x pa el ow ct tm lu sy ds sr : ℕ} {l e at f : Bool} {rp ls : Noted} {id : Kept} {td : List Access} {cd v : List ℕ} {w : Way}
         → Set cd lu sr
         → Polls false false false td f x
         → Hands w (j .moved) v
@@ -112,7 +111,7 @@ module _ (j : Job) where
         (theScene
         (theState (theRegisters ow ct tm cd lu 0x00 sy (loaded j) ds sr) (theStatus x c m l e Nothing) empty (theTransfer SelectAndTransferWithAtn Unfixed false)
         (theWire Selecting at false rp ls id el)) (theHost td f (wayPhase w) v [] []) (theTarget calling pa [] (storyOf w)))
-    greets : {c m x pa el ow ct tm lu sy ds sr : ℕ} {l e at f : Bool} {rp ls : Noted} {id : Identity} {td : List Access} {cd v : List ℕ} {w : Way}
+    greets : {c m x pa el ow ct tm lu sy ds sr : ℕ} {l e at f : Bool} {rp ls : Noted} {id : Kept} {td : List Access} {cd v : List ℕ} {w : Way}
         → Set cd lu sr
         → Polls false false false td f x
         → Hands w (j .moved) v
@@ -121,7 +120,7 @@ module _ (j : Job) where
         (theScene
         (theState (theRegisters ow ct tm cd lu 0x10 sy (loaded j) ds sr) (theStatus x c m l e Nothing) empty (theTransfer SelectAndTransferWithAtn Unfixed false)
         (theWire Connected at false rp ls id el)) (theHost td f (wayPhase w) v [] []) (theTarget talking pa [] (storyOf w)))
-    commands : {c m x pa el ow ct tm lu sy ds sr ph : ℕ} {l e at f : Bool} {rp ls : Noted} {id : Identity} {td : List Access} {cd v : List ℕ} {w : Way}
+    commands : {c m x pa el ow ct tm lu sy ds sr ph : ℕ} {l e at f : Bool} {rp ls : Noted} {id : Kept} {td : List Access} {cd v : List ℕ} {w : Way}
         {log : List Item} (had rest d : List ℕ)
         → Set cd lu sr
         → Polls false false false td f x
@@ -135,7 +134,7 @@ module _ (j : Job) where
         (theState (theRegisters ow ct tm cd lu ph sy (length d + length (j .beyond)) ds sr) (theStatus x c m l e Nothing) empty
         (theTransfer SelectAndTransferWithAtn Unfixed false) (theWire Connected at false rp ls id el)) (theHost td f (wayPhase w) v [] [])
         (theTarget talking pa log (items CommandOut rest ++ (items (wayPhase w) d ++ close j))))
-    comes : {c m x pa el ow ct tm lu sy ds sr ph : ℕ} {l e at f : Bool} {rp ls : Noted} {id : Identity} {td : List Access} {cd : List ℕ}
+    comes : {c m x pa el ow ct tm lu sy ds sr ph : ℕ} {l e at f : Bool} {rp ls : Noted} {id : Kept} {td : List Access} {cd : List ℕ}
         {log got : List Item} {q : Fifo} (fifo rest : List ℕ)
         → j .way ≡ inward
         → Set cd lu sr
@@ -149,7 +148,7 @@ module _ (j : Job) where
         (theState (theRegisters ow ct tm cd lu ph sy (length rest + length (j .beyond)) ds sr) (theStatus x c m l e Nothing) q
         (theTransfer SelectAndTransferWithAtn In false) (theWire Connected at false rp ls id el)) (theHost td f DataIn [] got [])
         (theTarget talking pa log (items DataIn rest ++ close j)))
-    goes : {c m x pa el ow ct tm lu sy ds sr ph : ℕ} {l e at f : Bool} {rp ls : Noted} {id : Identity} {td : List Access} {cd : List ℕ}
+    goes : {c m x pa el ow ct tm lu sy ds sr ph : ℕ} {l e at f : Bool} {rp ls : Noted} {id : Kept} {td : List Access} {cd : List ℕ}
         {log : List Item} {q : Fifo} (fifo rest give : List ℕ)
         → j .way ≡ outward
         → Set cd lu sr
@@ -163,7 +162,7 @@ module _ (j : Job) where
         (theState (theRegisters ow ct tm cd lu ph sy (length rest + length (j .beyond)) ds sr) (theStatus x c m l e Nothing) q
         (theTransfer SelectAndTransferWithAtn Out false) (theWire Connected at false rp ls id el)) (theHost td f DataOut give [] [])
         (theTarget talking pa log (items DataOut rest ++ close j)))
-    statuses : {c m x pa el ow ct tm sy ds sr n : ℕ} {l e at f wt : Bool} {rp ls : Noted} {id : Identity} {td : List Access} {cd v : List ℕ} {hp : Phase}
+    statuses : {c m x pa el ow ct tm sy ds sr n : ℕ} {l e at f wt : Bool} {rp ls : Noted} {id : Kept} {td : List Access} {cd v : List ℕ} {hp : Phase}
         {log got : List Item} {q : Fifo} {d : Direction}
         → Polls false wt true td f x
         → Left wt d q got hp
@@ -174,7 +173,7 @@ module _ (j : Job) where
         (theScene
         (theState (theRegisters ow ct tm cd (j .status) 0x50 sy n ds sr) (theStatus x c m l e Nothing) q (theTransfer SelectAndTransferWithAtn d false)
         (theWire Connected at false rp ls id el)) (theHost td f hp v got []) (theTarget talking pa log (item MessageIn 0x00 ∷ [])))
-    ends : {c m x pa el ow ct tm sy ds sr n b : ℕ} {l e at f : Bool} {rp ls : Noted} {id : Identity} {td : List Access} {cd v : List ℕ}
+    ends : {c m x pa el ow ct tm sy ds sr n b : ℕ} {l e at f : Bool} {rp ls : Noted} {id : Kept} {td : List Access} {cd v : List ℕ}
         {got : List Item} {q : Fifo} (fifo : List ℕ)
         → Polls false true true td f x
         → j .way ≡ inward
@@ -186,7 +185,7 @@ module _ (j : Job) where
         (theScene
         (theState (theRegisters ow ct tm cd (j .status) 0x60 sy n ds sr) (theStatus x c m l e (Ending 0x16)) q (theTransfer SelectAndTransferWithAtn In false)
         (theWire Connected at false rp ls id el)) (theHost td f DataIn v got []) (theTarget talking pa (story j) []))
-    told : {m x pa el ow ct tm sy ds sr n : ℕ} {l e at f o : Bool} {rp ls : Noted} {id : Identity} {td : List Access} {cd v : List ℕ} {hp : Phase}
+    told : {m x pa el ow ct tm sy ds sr n : ℕ} {l e at f o : Bool} {rp ls : Noted} {id : Kept} {td : List Access} {cd v : List ℕ} {hp : Phase}
         {got : List Item} {q : Fifo} {d : Direction}
         → Polls true false true td f x
         → Quiet d q
@@ -197,7 +196,7 @@ module _ (j : Job) where
         (theScene
         (theState (theRegisters ow ct tm cd (j .status) 0x60 sy n ds sr) (theStatus x 0x16 m l e Interrupt) q (theTransfer Idle d o)
         (theWire Connected at false rp ls id el)) (theHost td f hp v got []) (theTarget talking pa (story j) []))
-    calm : {c m x pa el : ℕ} {l e at f o : Bool} {rp ls : Noted} {id : Identity} {td : List Access} {v : List ℕ} {hp : Phase} {got : List Item}
+    calm : {c m x pa el : ℕ} {l e at f o : Bool} {rp ls : Noted} {id : Kept} {td : List Access} {v : List ℕ} {hp : Phase} {got : List Item}
         {q : Fifo} {d : Direction} {r : Registers} {n : List Note}
         → Closes false td f x r n
         → Quiet d q
@@ -206,7 +205,7 @@ module _ (j : Job) where
         → Reach
         (theScene (theState r (theStatus x c m l e Nothing) q (theTransfer Idle d o) (theWire Connected at false rp ls id el))
         (theHost td f hp v got n) (theTarget talking pa (story j) []))
-    gone : {m x pa el : ℕ} {l e at f o : Bool} {rp ls : Noted} {id : Identity} {td : List Access} {v : List ℕ} {hp : Phase} {got : List Item}
+    gone : {m x pa el : ℕ} {l e at f o : Bool} {rp ls : Noted} {id : Kept} {td : List Access} {v : List ℕ} {hp : Phase} {got : List Item}
         {q : Fifo} {d : Direction} {r : Registers} {n : List Note}
         → Closes true td f x r n
         → Quiet d q
@@ -215,7 +214,7 @@ module _ (j : Job) where
         → Reach
         (theScene (theState r (theStatus x 0x85 m l e Interrupt) q (theTransfer Idle d o) (theWire Disconnected at false rp ls id el))
         (theHost td f hp v got n) (theTarget away pa (story j) []))
-    rests : {c m x pa el : ℕ} {l e at f o : Bool} {rp ls : Noted} {id : Identity} {td : List Access} {v : List ℕ} {hp : Phase} {got : List Item}
+    rests : {c m x pa el : ℕ} {l e at f o : Bool} {rp ls : Noted} {id : Kept} {td : List Access} {v : List ℕ} {hp : Phase} {got : List Item}
         {q : Fifo} {d : Direction} {r : Registers} {n : List Note}
         → Polls false false true td f x
         → Finals r n

@@ -21,7 +21,6 @@ use Rattle.chip.specs.SelectAndTransfer.{sizeOf, stageOf}
 use Rattle.chip.specs.declared.Registers.{Registers}
 use Rattle.chip.specs.declared.Stage.the-variants.{Body}
 use Rattle.chip.specs.declared.Fifo.{Fifo}
-use Rattle.chip.specs.declared.Identity.{Identity}
 use Rattle.chip.specs.declared.Connection.the-variants.{Disconnected, Connected}
 use Rattle.chip.specs.declared.Running.the-variants.{Idle, SelectAndTransferWithAtn}
 use Rattle.chip.specs.declared.Pending.the-variants.{Nothing, Interrupt, Ending}
@@ -37,7 +36,7 @@ use Rattle.story.specs.Schedule.{calling, talking, away, Scene, Brought, now, M
 use Rattle.story.specs.Demand.{bytesOf, statusHeld, countHeld, countBytes, incomingData, Finished, Promise}
 use Rattle.story.proofs.Opening.{scenes}
 use Rattle.served.proofs.Opening.{steps}
-use Rattle.served.proofs.Parts.{theRegisters, theStatus, theTransfer, theWire, theState, theHost, theTarget, theScene, Plays, over, puts, gets, Aimed, before, coded, taken, sent, look, seen, ready}
+use Rattle.served.proofs.Parts.{Kept, theRegisters, theStatus, theTransfer, theWire, theState, theHost, theTarget, theScene, Plays, over, puts, gets, Aimed, before, coded, taken, sent, look, seen, ready}
 use Rattle.served.proofs.Queue.{Lined, none-lined, empty-none, empty-some, room-is, waits-is, front-is, fits, popped, pushed}
 use Rattle.served.proofs.Small.{asked-is, Quiet, unfixed, drained}
 use Rattle.served.proofs.Stages.{stage-identify, stage-status}
@@ -52,7 +51,7 @@ module _ {s₀ : State} (j : Job) (pr : Proper s₀ j) where
   B c = Brought step (byTransfer j) c
 
   -- the host loads the registers, and writes the command
-  command-on : {c m x pa el : ℕ} {l e at o f : Bool} {q : Fifo} {d : Direction} {rp ls : Noted} {id : Identity} {r : Registers}
+  command-on : {c m x pa el : ℕ} {l e at o f : Bool} {q : Fifo} {d : Direction} {rp ls : Noted} {id : Kept} {r : Registers}
       {v : List ℕ} {n : List Note} {hp : Phase} {t : List Item}
       → Ready j r n
       → B
@@ -62,7 +61,7 @@ module _ {s₀ : State} (j : Job) (pr : Proper s₀ j) where
   command-on {r = r} g =
       attend (byTransfer j) _ (record { asks = refl; on = rw (lt-ltb 0 (sizeOf (getD (r .descriptor .cdb) 0 0)) (has-size j pr (g .set))) (now refl) })
 
-  load-on : {c m x pa el : ℕ} {l e at o f : Bool} {q : Fifo} {d : Direction} {rp ls : Noted} {id : Identity} {td : List Access} {r : Registers}
+  load-on : {c m x pa el : ℕ} {l e at o f : Bool} {q : Fifo} {d : Direction} {rp ls : Noted} {id : Kept} {td : List Access} {r : Registers}
       {v : List ℕ} {n : List Note} {hp : Phase} {t : List Item}
       → Plays (put 0x18 0x08 ∷ []) (Ready j) td r n
       → B
@@ -78,7 +77,7 @@ module _ {s₀ : State} (j : Job) (pr : Proper s₀ j) where
       (get-done r c m l e Nothing q d o _ refl (byTransfer j) hp v [] n _ x f td k a u) (load-on p)
 
   -- the first byte goes into the FIFO, and is taken from there
-  give-on : {c m x pa el ow ct tm lu sy ds sr ph : ℕ} {l e at : Bool} {rp ls : Noted} {id : Identity} {cd : List ℕ} {log t : List Item} {q : Fifo}
+  give-on : {c m x pa el ow ct tm lu sy ds sr ph : ℕ} {l e at : Bool} {rp ls : Noted} {id : Kept} {cd : List ℕ} {log t : List Item} {q : Fifo}
       (y z : ℕ) (rest give : List ℕ)
       → Lined q []
       → stageOf true ph (sizeOf (getD cd 0 0)) ≡ Body
@@ -99,7 +98,7 @@ module _ {s₀ : State} (j : Job) (pr : Proper s₀ j) where
       }
 
   -- the command is sent
-  commands-on : {c m x pa el ow ct tm lu sy ds sr ph : ℕ} {l e at : Bool} {rp ls : Noted} {id : Identity} {cd v : List ℕ} {w : Way} {log : List Item}
+  commands-on : {c m x pa el ow ct tm lu sy ds sr ph : ℕ} {l e at : Bool} {rp ls : Noted} {id : Kept} {cd v : List ℕ} {w : Way} {log : List Item}
       (had rest d : List ℕ)
       → Set j cd lu sr
       → Hands j w d v
@@ -124,7 +123,7 @@ module _ {s₀ : State} (j : Job) (pr : Proper s₀ j) where
       (give-on y x d v none-lined (full-is j pr ph had s q e) (record { line = g; bytes = b })))
 
   -- the FIFO is full: the host reads a byte, and the next has room
-  take-on : {c m x pa el ow ct tm lu sy ds sr ph : ℕ} {l e at : Bool} {rp ls : Noted} {id : Identity} {cd : List ℕ} {log got t : List Item} {q : Fifo}
+  take-on : {c m x pa el ow ct tm lu sy ds sr ph : ℕ} {l e at : Bool} {rp ls : Noted} {id : Kept} {cd : List ℕ} {log got t : List Item} {q : Fifo}
       (y z : ℕ) (fifo : List ℕ) (b : ℕ) (rest : List ℕ)
       → Lined q (y ∷ z ∷ fifo)
       → stageOf true ph (sizeOf (getD cd 0 0)) ≡ Body
@@ -152,7 +151,7 @@ module _ {s₀ : State} (j : Job) (pr : Proper s₀ j) where
       }
 
   -- data come in
-  come-on : {c m x pa el ow ct tm lu sy ds sr ph : ℕ} {l e at : Bool} {rp ls : Noted} {id : Identity} {cd : List ℕ} {log got : List Item} {q : Fifo}
+  come-on : {c m x pa el ow ct tm lu sy ds sr ph : ℕ} {l e at : Bool} {rp ls : Noted} {id : Kept} {cd : List ℕ} {log got : List Item} {q : Fifo}
       (fifo rest : List ℕ)
       → Lined q fifo
       → Coming j got fifo rest
@@ -180,7 +179,7 @@ module _ {s₀ : State} (j : Job) (pr : Proper s₀ j) where
       (true-or-false (ltb (length (y ∷ z ∷ fifo)) 12))
 
   -- data go out
-  go-on : {c m x pa el ow ct tm lu sy ds sr ph : ℕ} {l e at : Bool} {rp ls : Noted} {id : Identity} {cd : List ℕ} {log : List Item} {q : Fifo}
+  go-on : {c m x pa el ow ct tm lu sy ds sr ph : ℕ} {l e at : Bool} {rp ls : Noted} {id : Kept} {cd : List ℕ} {log : List Item} {q : Fifo}
       (fifo rest give : List ℕ)
       → Lined q fifo
       → Going fifo rest give (j .beyond)
@@ -202,7 +201,7 @@ module _ {s₀ : State} (j : Job) (pr : Proper s₀ j) where
       (rw (s, ne-eqb (suc (length rest) + length (j .beyond)) 0 (omega arith), empty-none n) (give-on y x rest give n s i))
 
   -- 16h waits until the data are read out, and the bus until 16h is read
-  tell-on : {m x pa el ow ct tm sy ds sr n : ℕ} {l e at o : Bool} {rp ls : Noted} {id : Identity} {cd v : List ℕ} {hp : Phase} {log got : List Item}
+  tell-on : {m x pa el ow ct tm sy ds sr n : ℕ} {l e at o : Bool} {rp ls : Noted} {id : Kept} {cd v : List ℕ} {hp : Phase} {log got : List Item}
       {q : Fifo} {d : Direction}
       → B
       (theScene
@@ -211,7 +210,7 @@ module _ {s₀ : State} (j : Job) (pr : Proper s₀ j) where
   unfolding steps
   tell-on = attend (byTransfer j) _ (record { asks = rw asked-is; on = rw asked-is (now refl) })
 
-  end-on : {c m x pa el ow ct tm sy ds sr n b : ℕ} {l e at : Bool} {rp ls : Noted} {id : Identity} {cd v : List ℕ} {log got : List Item} {q : Fifo}
+  end-on : {c m x pa el ow ct tm sy ds sr n b : ℕ} {l e at : Bool} {rp ls : Noted} {id : Kept} {cd v : List ℕ} {log got : List Item} {q : Fifo}
       (fifo : List ℕ)
       → Lined q (b ∷ fifo)
       → B
@@ -233,7 +232,7 @@ module _ {s₀ : State} (j : Job) (pr : Proper s₀ j) where
       })
 
   -- the bus is free: the host reads on to its end
-  rest-on : {c m x pa el : ℕ} {l e at o : Bool} {rp ls : Noted} {id : Identity} {v : List ℕ} {hp : Phase} {log got : List Item}
+  rest-on : {c m x pa el : ℕ} {l e at o : Bool} {rp ls : Noted} {id : Kept} {v : List ℕ} {hp : Phase} {log got : List Item}
       {q : Fifo} {d : Direction} {r : Registers} {n : List Note}
       → Quiet d q
       → B
@@ -243,7 +242,7 @@ module _ {s₀ : State} (j : Job) (pr : Proper s₀ j) where
   rest-on unfixed = at-once (byTransfer j) _ (rw asked-is)
   rest-on (drained f) = at-once (byTransfer j) _ (rw (asked-is, f))
 
-  free-on : {m x pa el : ℕ} {l e at o : Bool} {rp ls : Noted} {id : Identity} {v : List ℕ} {hp : Phase} {log got : List Item}
+  free-on : {m x pa el : ℕ} {l e at o : Bool} {rp ls : Noted} {id : Kept} {v : List ℕ} {hp : Phase} {log got : List Item}
       {q : Fifo} {d : Direction} {r : Registers} {n : List Note}
       → Quiet d q
       → B
@@ -252,7 +251,7 @@ module _ {s₀ : State} (j : Job) (pr : Proper s₀ j) where
   unfolding steps
   free-on k = attend (byTransfer j) _ (record { asks = rw asked-is; on = rw asked-is (rest-on k) })
 
-  read-on : {m x pa el : ℕ} {l e at o f : Bool} {rp ls : Noted} {id : Identity} {v : List ℕ} {hp : Phase} {log got : List Item}
+  read-on : {m x pa el : ℕ} {l e at o f : Bool} {rp ls : Noted} {id : Kept} {v : List ℕ} {hp : Phase} {log got : List Item}
       {q : Fifo} {d : Direction} {r : Registers} {n : List Note} {td : List Access}
       → Quiet d q
       → Aimed td f x

@@ -16,7 +16,6 @@ use mathlib.Core.List.{List, [], _∷_, _++_}
 use mathlib.Core.Logic.{⊎-elim}
 use Prim.Native.Nat.{ℕ}
 use native.Mathlib.Omega.{arith}
-use lib.ListN.{replicate}
 use Rattle.chip.specs.State.{fresh, setCode, setPending, setPointer, setTimeout, setConnection, setRunning, setDirection, setCount, setFifo}
 use Rattle.chip.specs.Interrupts.{isInterrupt, isEnding, isIncoming}
 use Rattle.chip.specs.Calls.{Call, pointer, auxiliary, register, time, answer, request, free, kind, run, step}
@@ -44,7 +43,7 @@ use Rattle.unread.specs.Wrong.{hasty, peeking, mumbling, soft, misnames,
 use Rattle.unread.proofs.Choosing.{clash}
 use Rattle.unread.proofs.Because.{because-row}
 use Rattle.unread.proofs.Codes.{since-began, since-last, time-ends-nothing}
-use Rattle.chip.specs.Fifo.{waits}
+use Rattle.chip.specs.Fifo.{empty, push, waits}
 
 -- a status 16h that nobody has read, with the pointer at a
 abbrev unreadAt : ℕ → State
@@ -114,7 +113,7 @@ sluggish-refused h = clash (h .complete (time 1) calling 0x42 (B.times-out refl 
 abbrev filled : State
 filled =
     setConnection Connected
-    (setRunning TransferInfo (setDirection In (setCount 1 (setFifo (record { bytes = replicate 12 0; held = 1 }) fresh))))
+    (setRunning TransferInfo (setDirection In (setCount 1 (setFifo (push 0 empty) fresh))))
 
 pub hurried-refused : RaisedBecause hurried → ⊥
 unfolding everything hurried isReset isCommand raised
