@@ -5,6 +5,7 @@ ghost use Rattle.chip.specs.Events.{answered, answeredSelecting, answeredState,
 use chip::Connection;
 use chip::Noted;
 use chip::Reply;
+use chip::Seen;
 use chip::State;
 use state::connections;
 use state::running;
@@ -13,10 +14,11 @@ use state::set;
 pub fn connected(s: State) -> State
     ensures { λ r. ⌜ r ≡ connected s ⌝ }
 {
-    set::connection(
-        set::reported(set::last(s, Noted::NoPhase), Noted::NoPhase),
-        Connection::Connected,
-    )
+    let nothing = Seen {
+        reported: Noted::NoPhase,
+        last: Noted::NoPhase,
+    };
+    set::connection(set::seen(s, nothing), Connection::Connected)
 }
 
 fn atn_with(sets: bool, atn: bool) -> bool
@@ -32,7 +34,7 @@ fn answered_state(s: State) -> State
     ensures { λ r. ⌜ r ≡ answeredState s ⌝ }
 {
     let atn = atn_with(running::sets_atn(s), s.wire.handshake.atn);
-    set::atn(connected(s), atn)
+    connected(set::atn(s, atn))
 }
 
 fn answered_selecting(s: State) -> Reply

@@ -1,14 +1,13 @@
--- A list of known length, place by place: what the FIFO's array needs.
-use mathlib.Core.Path.{_≡_, ap, sym, _∙_}
+-- The twelve places of the FIFO.
+--   places rest-places   a list of known length, place by place
+--   copied places-long put-over   the places copied out of the FIFO's bytes in the image, and into them
+use mathlib.Core.Path.{_≡_, ap, _∙_}
 use mathlib.Core.List.{List, [], _∷_, _++_, append-nil}
-use Prim.Native.Nat.{ℕ, zero, suc, _+_}
+use Prim.Native.Nat.{ℕ, zero, suc, _+_, _≤_}
 use native.Mathlib.Omega.{arith}
-use lib.ListN.{length, drop, getD, length-drop, drop-of-length-le}
-use lib.Seq.{drop-cons, take-all, sets, sets-eq}
-use Rattle.chip.specs.Fifo.{fifoOf}
-use Rattle.chip.specs.declared.Fifo.{Fifo}
-use Rattle.chip.proofs.ImageLists.{spelled}
-use Rattle.chip.proofs.ImageFields.{whole}
+use lib.ListN.{length, take, drop, set, getD, length-drop, drop-of-length-le}
+use lib.Seq.{drop-cons, length-take-le, take-all}
+use borrow.Rule.Slice.PartMut.{putMid}
 
 -- what stands at k and the n - 1 places after it
 abbrev pub places : ℕ → ℕ → List ℕ → List ℕ
@@ -20,17 +19,21 @@ rest-places zero k l e = drop-of-length-le l {i = k} (omega arith)
 rest-places (suc n) k l e =
     drop-cons l k 0 (omega arith) ∙ ap (λ (t : List ℕ). getD l k 0 ∷ t) (rest-places n (suc k) l (omega arith))
 
--- the FIFO of thirteen bytes, place by place
-pub got : (l : List ℕ) → length l ≡ 13 → _≡_ {A = Fifo} (record { bytes = places 1 12 l; held = getD l 0 0 }) (fifoOf l)
-unfolding fifoOf
-got l h =
-    ap (λ (b : List ℕ). record { bytes = b; held = getD l 0 0 })
-    (sym (take-all 12 (drop 1 l) (rw length-drop (omega arith)) ∙ rest-places 12 1 l (omega arith)))
+-- a copy over as many bytes or fewer is what was copied
+pub copied : (src dst m : List ℕ) → length dst ≤ length src → m ≡ take (length src) src ++ drop (length src) dst → m ≡ src
+copied src dst m h e =
+    e ∙ ap (λ (x : List ℕ). x ++ drop (length src) dst) (take-all (length src) src (omega arith))
+    ∙ ap (λ (x : List ℕ). src ++ x) (drop-of-length-le dst {i = length src} h)
+    ∙ append-nil src
+
+pub places-long : (l : List ℕ) → length l ≡ 13 → length (take 12 (drop 1 l)) ≡ 12
+places-long l h = length-take-le 12 (drop 1 l) (rw length-drop (omega arith))
 
 -- thirteen bytes stored over as many
-pub put-over : (l b : List ℕ) (n : ℕ) → length l ≡ 13 → length b ≡ 12 → sets l 0 (n ∷ spelled 12 0 b) ≡ n ∷ b
-put-over l b n h k =
-    ap (λ (x : List ℕ). sets l 0 (n ∷ x)) (whole b k)
-    ∙ sets-eq (n ∷ b) l 0 (omega arith)
-    ∙ ap (λ (x : List ℕ). (n ∷ b) ++ x) (drop-of-length-le l {i = 0 + length (n ∷ b)} (omega arith))
-    ∙ append-nil (n ∷ b)
+pub put-over : (l b m : List ℕ) (n : ℕ) → length l ≡ 13 → length b ≡ 12 → m ≡ take (length b) b ++ drop (length b) (take 12 (drop 1 l))
+    → set (putMid 1 12 l m) 0 n ≡ n ∷ b
+put-over [] b m n h k e = absurd (omega arith)
+put-over (x ∷ l) b m n h k e =
+    ap (λ (r : List ℕ). n ∷ (r ++ drop 12 l)) (copied b (take 12 l) m (omega (arith, places-long (x ∷ l) h)) e)
+    ∙ ap (λ (r : List ℕ). n ∷ (b ++ r)) (drop-of-length-le l {i = 12} (omega arith))
+    ∙ ap (λ (r : List ℕ). n ∷ r) (append-nil b)

@@ -193,7 +193,7 @@ pub fn ack(s: State, x: bool) -> State
     t
 }
 
-fn seen(s: State, x: Seen) -> State
+pub fn seen(s: State, x: Seen) -> State
     ensures { λ r. ⌜ r ≡ setSeen x s ⌝ }
 {
     let p = s.wire;
