@@ -13,7 +13,7 @@ use native.Mathlib.Omega.{arith}
 use lib.Dec.{eqb, ltb}
 use lib.ListN.{length, take, drop, getD, set, length-append, length-drop, length-set, take-append-drop}
 use lib.Seq.{drop-cons, drop-append-le, drop-drop, drop-set-lt, length-take-le, take-append-seam, take-append-add, take-all, set-split}
-use borrow.Author.Tests.{ltb-true, lt-ltb, eqb-false, eqb-true, ne-eqb}
+use borrow.Author.Tests.{ltb-true, lt-ltb, eqb-false, eqb-true, eq-eqb, ne-eqb}
 use Rattle.chip.specs.Choice.{pick, both}
 use Rattle.chip.specs.Fifo.{waiting, empty, isEmpty, hasRoom, waits, front, pop, push, areZero, fifoBytes, fifoOf, newestIn, isFifo, Whole, KeepsBytes}
 use Rattle.chip.specs.declared.Fifo.{Fifo}
@@ -184,6 +184,14 @@ module _ (q : Fifo) (u : Whole q) where
           w ∙ ap (λ (n : ℕ). take (n + 1) (set (q .bytes) (q .held) b)) held-is
           ∙ ap (take (length (waiting q) + 1)) s ∙ t
 
+  nothing-less-is : length (waiting q) ≡ 0 → pop q ≡ q
+  unfolding pop
+  nothing-less-is h = taken _ _ (empty-is ∙ eq-eqb _ 0 h)
+
+  nothing-more-is : (b : ℕ) → length (waiting q) ≡ 12 → push b q ≡ q
+  unfolding push
+  nothing-more-is b h = passed-over _ _ (room-is ∙ ap (λ (n : ℕ). ltb n 12) h)
+
 pub keeps-bytes : KeepsBytes
 keeps-bytes =
     record {
@@ -194,6 +202,8 @@ keeps-bytes =
       oldest = λ q b l u e. oldest-is q u b l e;
       less = λ q b l u e. less-is q u b l e;
       more = λ q b u h. more-is q u b h;
+      nothing-less = nothing-less-is;
+      nothing-more = λ q b u h. nothing-more-is q u b h;
       begins-whole = none-whole;
       pop-whole = popped-whole;
       push-whole = λ q b u. pushed-whole q u b;

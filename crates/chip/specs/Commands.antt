@@ -119,10 +119,6 @@ isValid n s = both (isPlace (entryOf n .place) (s .wire .connection)) (isReady n
 unfoldable pub resetCode : State → ℕ
 resetCode s = 0x00
 
--- .. one of them
-unfoldable pub isResetCode : ℕ → Bool
-isResetCode k = eqb k 0x00
-
 -- "Reset is always taken: registers 01 to 16h become zero, 00 is kept and its low three bits become our identity, FIFO, ATN, held ACK
 -- and PE clear, state Disconnected, code 00 with INT." The pointer is no register and stays.
 unfoldable pub reset : ℕ → State → State

@@ -82,6 +82,9 @@ pub record KeepsBytes : Type 0 where
   pub oldest : (q : Fifo) (b : ℕ) (l : List ℕ) → Whole q → waiting q ≡ b ∷ l → front q ≡ b
   pub less : (q : Fifo) (b : ℕ) (l : List ℕ) → Whole q → waiting q ≡ b ∷ l → waiting (pop q) ≡ l
   pub more : (q : Fifo) (b : ℕ) → Whole q → length (waiting q) < 12 → waiting (push b q) ≡ waiting q ++ (b ∷ [])
+  -- nothing comes off an empty FIFO, and nothing goes into a full one
+  pub nothing-less : (q : Fifo) → Whole q → length (waiting q) ≡ 0 → pop q ≡ q
+  pub nothing-more : (q : Fifo) (b : ℕ) → Whole q → length (waiting q) ≡ 12 → push b q ≡ q
   pub begins-whole : Whole empty
   pub pop-whole : (q : Fifo) → Whole q → Whole (pop q)
   pub push-whole : (q : Fifo) (b : ℕ) → Whole q → Whole (push b q)

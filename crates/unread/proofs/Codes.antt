@@ -9,7 +9,7 @@
 --   by-calls        what holds with no call made, and with one more, holds over every list of calls
 --   run-more        .. the state with one more
 use mathlib.Core.Path.{_≡_, refl, sym, ap, _∙_}
-use mathlib.Core.Bool.{true, false}
+use mathlib.Core.Bool.{Bool, true, false}
 use mathlib.Core.List.{List, [], _∷_, _++_, append-assoc, append-nil}
 use mathlib.Core.Logic.{_⊎_, inl, inr, ⊎-elim}
 use Prim.Native.Nat.{ℕ, _+_, _-_}
@@ -20,7 +20,7 @@ use Rattle.chip.specs.State.{fresh}
 use Rattle.chip.specs.Phases.{phaseOf, phaseNumber}
 use Rattle.chip.specs.Interrupts.{interrupted, isInterrupt, busy, bytesUnread, isEnding}
 use Rattle.chip.specs.Running.{isRunning}
-use Rattle.chip.specs.Commands.{abortPhase, isResetCode, resetCode}
+use Rattle.chip.specs.Commands.{abortPhase, resetCode}
 use Rattle.chip.specs.Connections.{isSelecting}
 use Rattle.chip.specs.Calls.{Call, Outcome, time, answer, reselection, request, free, step, run}
 use Rattle.chip.specs.declared.State.{State}
@@ -123,6 +123,10 @@ data Reason : Type 0 where
   resetting answering completing aborting refusing leaving timing reselecting : Reason
   asking : Phase → Reason
   other : Reason
+
+-- a code that a Reset has
+unfoldable isResetCode : ℕ → Bool
+isResetCode k = eqb k 0x00
 
 reasonOf : ℕ → Reason
 reasonOf k =
@@ -316,7 +320,7 @@ pub codes-only-by : CodesOnlyBy step
 unfolding reasonOf Explains EndsBy pick both either isResetCode
 codes-only-by =
     record {
-      by-reset = reset-only;
+      by-reset = λ l c s h. reset-only l c (resetCode s) (reset-code-is s) h;
       by-answer = λ l c h. own l c h (λ d x. x);
       all-read = λ l c h. ⊎-elim (λ r. reads-row r .all-read refl) (λ e. e) (why l c h);
       by-abort = λ l c h. own l c h (λ d x. x);

@@ -22,7 +22,7 @@ use Rattle.chip.specs.declared.Pending.the-variants.{Ending}
 use Rattle.chip.specs.declared.Connection.the-variants.{Disconnected, Selecting, Connected}
 use Rattle.unread.specs.Status.{isCommand, isReset, isSelection, isAnswer, raised}
 use Rattle.unread.specs.Because.{Begins, ReadsOut, isIdle}
-use Rattle.chip.specs.Commands.{isResetCode}
+use Rattle.chip.specs.Commands.{resetCode}
 
 pub record Raises (f : Call → State → Outcome) (l : List Call) (c : Call) (k : ℕ) : Type 0 where
   pub raises : raised c (run f l fresh) (f c (run f l fresh) .state) ≡ true
@@ -54,8 +54,8 @@ ByFree f l c k =
     (c ≡ free) ⊎ (ReadsOut c (run f l fresh) k × Since f (λ d s. (d ≡ free) × Begins d s k) (λ d s. s .status .pending ≡ Ending k) l)
 
 pub record CodesOnlyBy (f : Call → State → Outcome) : Type 0 where
-  -- Reset's codes only by Reset
-  pub by-reset : (l : List Call) (c : Call) (k : ℕ) → isResetCode k ≡ true → Raises f l c k → isReset c (run f l fresh) ≡ true
+  -- the code that a Reset has, in whatever state, only by Reset
+  pub by-reset : (l : List Call) (c : Call) (s : State) → Raises f l c (resetCode s) → isReset c (run f l fresh) ≡ true
   -- 11h only by an Answer, while selecting
   pub by-answer : (l : List Call) (c : Call) → Raises f l c 0x11 → (c ≡ answer) × (run f l fresh .wire .connection ≡ Selecting)
   -- 16h only with no incoming byte unread
