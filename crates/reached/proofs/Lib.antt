@@ -6,4 +6,5 @@ pub mod Host
 pub mod Commands
 pub mod Laws
 pub mod Facts
+pub mod NeverBoth
 pub mod Wrong

@@ -1,3 +1,4 @@
 pub mod Sound
 pub mod Facts
+pub mod NeverBoth
 pub mod Wrong

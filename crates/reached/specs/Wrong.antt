@@ -2,13 +2,16 @@
 --   afterwards      a step that changes the state once more after a call of one kind
 --   staysSelecting  a timeout raises 42h and stays selecting, with the command running
 --   keepsAck        a Free keeps the held ACK
+--   listens         a Select is taken although INT is set
 use Prim.Native.Nat.{ℕ}
 use lib.Dec.{eqb}
-use Rattle.chip.specs.Choice.{pick}
+use Rattle.chip.specs.Choice.{pick, both}
 use Rattle.chip.specs.State.{setAck, setRunning, setConnection}
 use Rattle.chip.specs.Interrupts.{interrupted}
+use Rattle.chip.specs.Commands.{selecting}
 use Rattle.chip.specs.Calls.{Call, Outcome, step, kind}
 use Rattle.chip.specs.declared.State.{State}
+use Rattle.chip.specs.declared.Running.the-variants.{SelectWithAtn}
 
 -- after a call of kind k, as `kind` numbers them, the state is changed by what it was before
 abbrev pub afterwards : ℕ → (State → State → State) → Call → State → Outcome
@@ -26,3 +29,7 @@ staysSelecting =
 
 unfoldable pub keepsAck : Call → State → Outcome
 keepsAck = afterwards 8 (λ s t. setAck (s .wire .handshake .ack) t)
+
+-- the command register written with INT set: the command is taken, and INT stays
+unfoldable pub listens : Call → State → Outcome
+listens = afterwards 2 (λ s t. pick (both (eqb (s .status .pointer) 0x18) (interrupted s)) (selecting SelectWithAtn t) t)
