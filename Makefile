@@ -125,8 +125,14 @@ build/against_model: $(wildcard tests/model/src/*.rs tests/model/Cargo.* tests/a
 	@cp $(CARGO_OUT)/release/against_model $@
 
 # Nanoseconds for each call, and the ratios to the two plain models. `make speed` writes what it prints into docs/SPEED.md.
+# `make bench BEFORE=..libam33c93a.a`: an earlier library stands beside this one, in the place of the model in Rust.
+ifdef BEFORE
+bench: build/bench_before
+	@build/bench_before
+else
 bench: build/bench
 	@build/bench
+endif
 
 speed: build/bench
 	@tools/write-speed
@@ -135,6 +141,11 @@ MODEL_C = $(CARGO_OUT)/release/libmodel_c.a
 
 build/bench: bench/bench.c bench/work.h bench/plain.c bench/plain.h bench/model.h include/am33c93a.h $(MODEL_C) $(NATIVE)
 	@$(CC) $(CFLAGS) -o $@ $< bench/plain.c $(MODEL_C) $(NATIVE)
+
+build/bench_before: bench/bench.c bench/work.h bench/plain.c bench/plain.h include/am33c93a.h $(BEFORE) $(NATIVE)
+	@sed 's/am33c93a_/before_/g; s/AM33C93A/BEFORE/g' include/am33c93a.h > build/before.h
+	@objcopy $(shell sed -n 's/^uint32_t \(am33c93a_\([a-z_]*\)\)(.*/--redefine-sym \1=before_\2/p' include/am33c93a.h) $(BEFORE) build/before.a
+	@$(CC) $(CFLAGS) -DBEFORE -Ibuild -o $@ $< bench/plain.c $(NATIVE) build/before.a
 
 $(MODEL_C): $(wildcard tests/model/src/*.rs tests/model/Cargo.* bench/model_c/src/*.rs bench/model_c/Cargo.*)
 	@cd bench/model_c && $(CARGO) build -q --release --target-dir $(CARGO_OUT)

@@ -1,5 +1,6 @@
 /* The speed of the library beside two plain models of the same paper: tests/model in Rust (behind the C entries of model_c) and
  * plain.c over a C struct. Nanoseconds per call, and how many times slower the library is.
+ * `make bench BEFORE=LIBRARY` sets an earlier library in the place of the model in Rust, so that both are measured in one run.
  *
  *     gcc -O2 -std=c11 -Wall -Wextra -Werror -Iinclude -o bench bench/bench.c bench/plain.c libmodel_c.a libam33c93a.a
  *
@@ -11,7 +12,11 @@
 #include <string.h>
 #include <time.h>
 #include "am33c93a.h"
+#ifdef BEFORE
+#include "before.h"
+#else
 #include "model.h"
+#endif
 #include "plain.h"
 
 enum { COPIES = 64, MEBIBYTE = 1 << 20 };
@@ -45,12 +50,28 @@ static uint8_t library_copies[COPIES][AM33C93A_IMAGE_LENGTH];
 #undef STATE
 #undef COPY
 
+#ifdef BEFORE
+/* `make bench BEFORE=..`: an earlier library stands where the model in Rust stands else, its entries renamed. */
+#define OTHER "before"
+#define OTHER_SIDE "an earlier library"
+#define RATIO "%8.2f"
+static uint8_t model_state[AM33C93A_IMAGE_LENGTH], model_saved[AM33C93A_IMAGE_LENGTH];
+static uint8_t model_copies[COPIES][AM33C93A_IMAGE_LENGTH];
+#define ENTRY(name) before_##name
+#define STATE model_state, AM33C93A_IMAGE_LENGTH
+#define COPY(i) model_copies[i], AM33C93A_IMAGE_LENGTH
+#define model_at_pointer model_state[25]
+#else
+#define OTHER "Rust"
+#define OTHER_SIDE "the model in Rust"
+#define RATIO "%8.1f"
 static struct model model_state, model_saved, model_copies[COPIES];
-#define SIDE(name) model_##name
 #define ENTRY(name) model_##name
 #define STATE &model_state
 #define COPY(i) &model_copies[i]
 #define model_at_pointer model_state.bytes[0]
+#endif
+#define SIDE(name) model_##name
 #include "work.h"
 #undef SIDE
 #undef ENTRY
@@ -198,12 +219,12 @@ int main(void)
 {
     stay_here();
     for (size_t i = 0; i < sizeof sent; i++) sent[i] = (uint8_t)(i * 2654435761u >> 13);
-    printf("Nanoseconds per call: the library (an image of %d bytes lent to each call), the model in Rust and plain C over a struct.\n"
+    printf("Nanoseconds per call: the library (an image of %d bytes lent to each call), " OTHER_SIDE " and plain C over a struct.\n"
            "One core, best of 7 runs. 'two calls', 'four calls': for all of them. 'restored': the state by memcpy, its own time\n"
            "subtracted. 1 MiB: a whole Select-And-Transfer, each byte compared at the end; polled: Request, auxiliary read, access;\n"
            "by blocks: slices of 4096 bytes lent, of which 12 move, then 12 Requests.\n",
            AM33C93A_IMAGE_LENGTH);
-    printf("%-46s %9s    %9s    %9s    %8s %8s\n", "", "library", "Rust", "C", "to Rust", "to C");
+    printf("%-46s %9s    %9s    %9s    %8s %8s\n", "", "library", OTHER, "C", "to " OTHER, "to C");
     for (size_t i = 0; i < sizeof items / sizeof items[0]; i++) {
         const struct item *item = &items[i];
         uint32_t sums[SIDES];
@@ -216,7 +237,7 @@ int main(void)
         printf("%-46s", item->name);
         measure(item, times);
         for (int k = 0; k < SIDES; k++) print_time(times[k]);
-        printf(" %8.1f %8.1f\n", times[LIBRARY] / times[MODEL], times[LIBRARY] / times[PLAIN]);
+        printf(" " RATIO " " RATIO "\n", times[LIBRARY] / times[MODEL], times[LIBRARY] / times[PLAIN]);
         fflush(stdout);
     }
     return 0;

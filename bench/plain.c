@@ -1,5 +1,6 @@
 /* A plain C model of the first version of paper 01 (see plain.h). The words in quotes are the paper's; those marked R are of
- * the readings of its open places. Commands with BSY never meet INT: "No call from a fresh state reaches INT with BSY" (R). */
+ * the readings of its open places, 02 those of paper 02. INT is never asked for where a command runs: "no sequence of calls from a fresh
+ * state has BSY and INT both set" (02, Req 14). */
 #include "plain.h"
 #include "am33c93a.h"
 
@@ -459,12 +460,11 @@ uint32_t plain_block(struct plain *p, uint32_t mark, uint8_t *data, size_t lengt
 /* Bus events. */
 
 /* "While selecting with register 02 not 0, units add up; when they reach it, code 42h, Disconnected. Otherwise Done without
- * effect." "A Time event while a selection runs with INT set is Held too." */
+ * effect." */
 uint32_t plain_time(struct plain *p, uint32_t units)
 {
     if (units > 255) return result(AM33C93A_BAD_NUMBER, 0);
     if (p->connection != PLAIN_SELECTING) return done(0);
-    if (p->pending == PLAIN_INT) return result(AM33C93A_HELD, 0);
     if (p->stored[AM33C93A_TIMEOUT] == 0) return done(0);
     p->elapsed += units;
     if (p->elapsed < p->stored[AM33C93A_TIMEOUT]) return done(0);

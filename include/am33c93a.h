@@ -3,7 +3,8 @@
  * The caller lends the state of a controller as an image of am33c93a_image_length() bytes, made once by am33c93a_fresh.
  * Each entry but the first returns the answer's number in bits 0 to 7 and its value from bit 8 up (AM33C93A_ANSWER,
  * AM33C93A_VALUE). An image of another length, bytes that are no state's image and operands out of range are answered
- * AM33C93A_BAD_NUMBER, and no lent byte changes. No entry leaves an image that is not a state's.
+ * AM33C93A_BAD_NUMBER, and no lent byte changes. No entry leaves an image that is not a state's. No state has INT and BSY both
+ * set, so bytes that say both are no image, not to a Reset either: am33c93a_fresh makes a new one.
  *
  * What the caller owes: a slice is a pointer and a length, and the bytes it names can be read and written; the two slices of
  * am33c93a_block do not overlap; no other thread uses the same image during a call. A slice of length 0 may be null.
@@ -66,7 +67,7 @@ enum {
 
 /* Auxiliary status. */
 enum {
-    AM33C93A_AUX_INT = 0x80, /* an interrupt is pending: read AM33C93A_SCSI_STATUS */
+    AM33C93A_AUX_INT = 0x80, /* an interrupt is pending: read AM33C93A_SCSI_STATUS; never with BSY */
     AM33C93A_AUX_LCI = 0x40, /* the last command was ignored */
     AM33C93A_AUX_BSY = 0x20, /* a Level II command runs, or its ending is under way */
     AM33C93A_AUX_CIP = 0x10, /* command in progress: always 0 here */

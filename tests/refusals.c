@@ -80,7 +80,26 @@ static void all_bits_count(int entry, const uint8_t *fresh)
 }
 
 static const struct { uint8_t at, limit; } ranges[] = {
-    {26, 2}, {27, 2}, {28, 4}, {30, 4}, {31, 6}, {32, 3}, {33, 2}, {34, 2}, {35, 2}, {36, 9}, {37, 9}, {38, 8}, {40, 13}};
+    {26, 2}, {27, 2}, {30, 4}, {32, 3}, {33, 2}, {34, 2}, {35, 2}, {36, 9}, {37, 9}, {38, 8}, {40, 13}};
+
+/* Bytes 28 (what is pending), 29 (the code to come) and 31 (the command that runs) say one thing together, in every combination: INT only
+ * where no command runs (paper 02, Req 14), an ending only where one does, a code only with an ending. The pointer stands at 18h, so that the
+ * register access is a Reset, which is no way out of an image with both. */
+static void activities(int entry)
+{
+    static const uint8_t codes[] = {0, 1, 0x16, 0xff};
+    for (int pending = 0; pending < 256; pending++)
+        for (int command = 0; command < 256; command++)
+            for (int i = 0; i < 4; i++) {
+                if (pending > 5 && command > 7) continue; /* one of the two far out of range is enough */
+                uint8_t image[LENGTH] = {[25] = AM33C93A_COMMAND, [28] = (uint8_t)pending, [29] = codes[i], [31] = (uint8_t)command};
+                int both = pending == 1 && command >= 1 && command <= 5;
+                int is_state = pending < 4 && command < 6 && (codes[i] == 0 || pending == 2)
+                    && (command == 0 ? pending < 2 : pending != 1);
+                if (is_state) taken(entry, image, 1, 0, 0);
+                else refused(entry, image, LENGTH, 1, 0, 0, both ? "INT with a running command was taken" : "no activity's bytes were taken");
+            }
+}
 
 int main(void)
 {
@@ -103,12 +122,8 @@ int main(void)
                 if (v >= ranges[i].limit) refused(e, image, LENGTH, 0, 0, 0, "bytes that are no image were taken");
                 else taken(e, image, 0, 0, 0);
             }
-        for (int v = 1; v < 256; v++) { /* an ending's code without an ending, and a byte in an unused place of the FIFO */
-            uint8_t image[LENGTH] = {0};
-            image[29] = (uint8_t)v;
-            refused(e, image, LENGTH, 0, 0, 0, "a code without an ending was taken");
-            image[28] = 2;
-            taken(e, image, 0, 0, 0);
+        activities(e);
+        for (int v = 1; v < 256; v++) { /* a byte in an unused place of the FIFO */
             for (int k = 0; k < 12; k++) {
                 uint8_t other[LENGTH] = {0};
                 other[40] = (uint8_t)k;

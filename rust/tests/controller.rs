@@ -126,12 +126,21 @@ fn bytes_that_are_no_image_are_refused() {
     }
     // Byte and first value out of range (docs/IMAGE.md).
     let limits =
-        [(26, 2), (27, 2), (28, 4), (30, 4), (31, 6), (32, 3), (33, 2), (34, 2), (35, 2), (36, 9), (37, 9), (38, 8), (40, 13)];
+        [(26, 2), (27, 2), (30, 4), (32, 3), (33, 2), (34, 2), (35, 2), (36, 9), (37, 9), (38, 8), (40, 13)];
     for (at, limit) in limits {
         for value in 0..=255 {
             let mut image = [0; IMAGE_LENGTH];
             image[at] = value;
             assert_eq!(Controller::from_image(&image).is_ok(), value < limit, "byte {at} is {value}");
+        }
+    }
+    // Bytes 28 and 31 together: INT (1) only where no command runs, an ending or a read-out (2, 3) only where one does.
+    for pending in 0..=255 {
+        for command in 0..=255 {
+            let mut image = [0; IMAGE_LENGTH];
+            (image[28], image[31]) = (pending, command);
+            let is_state = matches!((pending, command), (0 | 1, 0) | (0 | 2 | 3, 1..=5));
+            assert_eq!(Controller::from_image(&image).is_ok(), is_state, "byte 28 is {pending}, byte 31 is {command}");
         }
     }
     for at in [29].into_iter().chain(41..IMAGE_LENGTH) {

@@ -9,32 +9,31 @@ use mathlib.Core.Logic.{_⊎_, inl, inr, ⊎-elim}
 use Prim.Native.Nat.{ℕ}
 use Rattle.chip.specs.Choice.{pick, both, either}
 use Rattle.chip.specs.State.{fresh, setPointer}
-use Rattle.chip.specs.Interrupts.{interrupted, isInterrupt, inEnding, isEnding, busy}
+use Rattle.chip.specs.Interrupts.{interrupted, inEnding, busy}
+use Rattle.chip.specs.Activity.{isInterrupt, isEnding, isRunning}
 use Rattle.chip.specs.Registers as R
 use Rattle.chip.specs.Calls.{Call, Outcome, pointer, auxiliary, register, isByte, isGood, carried, step, run}
 use Rattle.chip.specs.declared.State.{State}
 use Rattle.chip.specs.declared.Wire.{Wire}
 use Rattle.chip.specs.declared.Answer.the-variants.{Done, Blind}
-use Rattle.chip.specs.declared.Pending.{Pending}
-use Rattle.chip.specs.declared.Pending.the-variants.{Ending}
+use Rattle.chip.specs.declared.Activity.{Activity}
 use Rattle.chip.proofs.Cases.{by-test, either-last}
 use Rattle.reached.specs.Sound.{Sound}
-use Rattle.reached.proofs.Facts.{facts}
-use Rattle.unread.specs.Status.{isReset, isDisconnect, readsAt, raised}
+use Rattle.unread.specs.Status.{Ending, pending, isReset, isDisconnect, readsAt, raised}
 use Rattle.unread.specs.Because.{Because}
 use Rattle.unread.specs.Codes as C
 use Rattle.unread.specs.Codes.{Since}
 use Rattle.unread.proofs.Choosing.{clash}
-use Rattle.unread.proofs.Telling.{cleared-int}
+use Rattle.unread.proofs.Pendings.{isEnd, int-by, end-by, cleared-int}
 use Rattle.unread.proofs.Told.{reset-told, disconnect-told, ReadTold, blind, read, status-read}
-use Rattle.unread.proofs.Unread.{unread-status-kept, raised-anew, raised-reset}
+use Rattle.unread.proofs.Unread.{int-pending, unread-status-kept, raised-anew, raised-reset}
 use Rattle.unread.proofs.Because.{Found, quiet, reading-out, resetting, because-found, raised-because, ending-because}
 use Rattle.unread.proofs.Codes.{run-more, by-calls}
 use Rattle.unread.proofs.Ending.{ending-is-still}
 use Rattle.unread.proofs.Placed.{ending-placed}
 use Rattle.belongs.specs.StillBus.{isPending}
 use Rattle.belongs.specs.Belongs.{flags, Causes, at-once, to-come, Owes, unread, coming, Undisturbed, StatusBelongs}
-use Rattle.belongs.proofs.StillBus.{calm, unread-still}
+use Rattle.belongs.proofs.StillBus.{unread-still}
 use Rattle.reached.proofs.Laws.{reached}
 use Rattle.belongs.proofs.Unmoved.{unmoved}
 
@@ -43,30 +42,30 @@ module _ (k : ℕ) (c : Call) (s : State) where
   Passed = Causes c s k ⊎ Undisturbed step k c s
 
   -- an ending with k, before the call and after it, or raised by it
-  in-ending : s .status .pending ≡ Ending k → isReset c s ≡ false → isDisconnect c s ≡ false → Undisturbed step k c s
+  in-ending : pending s ≡ Ending k → isReset c s ≡ false → isDisconnect c s ≡ false → Undisturbed step k c s
   in-ending p r d =
       record {
         owed = coming p;
-        still = ending-is-still c s (ap isEnding p);
+        still = ending-is-still c s (end-by s p);
         placed = ending-placed c s k p r d;
-        bus = λ i. clash i (ap isInterrupt p);
-        command = λ i. clash i (ap isInterrupt p);
+        bus = λ i. clash i (int-by s p);
+        command = λ i. clash i (int-by s p);
       }
 
   -- after a Reset INT is set, and after a Disconnect nothing is pending
-  no-reset : isInterrupt (step c s .state .status .pending) ≡ false → isReset c s ≡ false
+  no-reset : interrupted (step c s .state) ≡ false → isReset c s ≡ false
   no-reset n = by-test (isReset c s) (λ r. clash (ap isInterrupt (reset-told c s r .1)) n) (λ r. r)
 
   no-disconnect : interrupted s ≡ false → isPending (step c s .state) ≡ true → isDisconnect c s ≡ false
   unfolding either
   no-disconnect i o =
-      by-test (isDisconnect c s) (λ d. clash o (ap (λ (q : Pending). either (isInterrupt q) (isEnding q)) (disconnect-told c s d i .1)))
+      by-test (isDisconnect c s) (λ d. clash o (ap (λ (a : Activity). either (isInterrupt a) (isEnding a)) (disconnect-told c s d i .1)))
       (λ d. d)
 
   -- what the table says of a code that was not there before
   found-on : Because c s k → isReset c s ≡ false → interrupted s ≡ false → interrupted (step c s .state) ≡ true → Found c s k → Passed
   unfolding either
-  found-on h r i j (quiet q) = inl (at-once h (rw (ap isEnding q)))
+  found-on h r i j (quiet q) = inl (at-once h (rw (end-by s q)))
   found-on h r i j (reading-out o) = inr (in-ending (o .ending) r (no-disconnect i (rw j)))
   found-on h r i j (resetting f) = clash f r
 
@@ -85,21 +84,21 @@ module _ (k : ℕ) (c : Call) (s : State) where
           let u = unmoved s x i c r in
           record {
             owed = unread i (sym (unread-status-kept .code-kept c s i r) ∙ e);
-            still = unread-still s (calm x i) c;
+            still = unread-still s i c;
             placed = ap (λ (w : Wire). w .connection) (u .wire);
             bus = λ i. u .wire;
-            command = λ i. u .transfer;
+            command = λ i. u .command;
           }
 
   pub passed-on : Sound s → Owes k (step c s .state) → Passed
   unfolding either
   passed-on x (unread j e) = raised-on x j e
   passed-on x (coming p) =
-      ⊎-elim (λ q. inr (in-ending q (no-reset (ap isInterrupt p)) (no-disconnect (ap isInterrupt q) (owing p)))) (λ b. inl (to-come b))
+      ⊎-elim (λ q. inr (in-ending q (no-reset (int-by (step c s .state) p)) (no-disconnect (int-by s q) (owing p)))) (λ b. inl (to-come b))
       (ending-because .sound c s k p)
     where
-      owing : step c s .state .status .pending ≡ Ending k → isPending (step c s .state) ≡ true
-      owing p = ap (λ (q : Pending). either (isInterrupt q) (isEnding q)) p
+      owing : pending (step c s .state) ≡ Ending k → isPending (step c s .state) ≡ true
+      owing p = rw (int-by (step c s .state) p, end-by (step c s .state) p)
 
 abbrev pub Belongs : List Call → Type 0
 Belongs l = (k : ℕ) → Owes k (run step l fresh) → Since step (λ c s. Causes c s k) (Undisturbed step k) l
@@ -107,7 +106,7 @@ Belongs l = (k : ℕ) → Owes k (run step l fresh) → Since step (λ c s. Caus
 nothing-owed : Belongs []
 unfolding run
 nothing-owed k (unread i e) = clash i refl
-nothing-owed k (coming p) = clash (ap isEnding p) refl
+nothing-owed k (coming p) = clash (ap isEnd p) refl
 
 one-more : (l : List Call) (c : Call) → Belongs l → Belongs (l ++ (c ∷ []))
 one-more l c h k o =
@@ -124,12 +123,17 @@ read-hushed s o n (blind b a k q) = a
 read-hushed s o n (read b a k q) = clash n b
 
 -- it clears INT
-read-clears : (s : State) (o : Outcome) → busy s ≡ false → ReadTold s o → isInterrupt (o .state .status .pending) ≡ false
+read-clears : (s : State) (o : Outcome) → busy s ≡ false → ReadTold s o → interrupted (o .state) ≡ false
 read-clears s o n (blind b a k q) = clash b n
-read-clears s o n (read b a k q) = ap isInterrupt q ∙ cleared-int (s .status .pending)
+read-clears s o n (read b a k q) = ap isInterrupt q ∙ cleared-int (s .activity)
 
 pub owed-belongs : (l : List Call) → Belongs l
 owed-belongs = by-calls Belongs nothing-owed one-more
+
+-- with INT set no command runs
+not-busy : (s : State) → interrupted s ≡ true → busy s ≡ false
+unfolding busy
+not-busy s i = ap isRunning (int-pending s .0 i)
 
 -- the driver's own two calls
 pointed : (s : State) (b : ℕ) → isByte b ≡ true → step (pointer 1 b) s .state ≡ setPointer b s
@@ -151,18 +155,18 @@ status-belongs =
       shown = λ l. shows (run step l fresh);
       heard = λ l i.
           ap (λ (t : State). step (register 0 0) t .answer) (pointed (run step l fresh) 0x17 refl)
-          ∙ hears (run step l fresh) (facts (reached l) .int-not-busy i);
+          ∙ hears (run step l fresh) (not-busy (run step l fresh) i);
       pointed = λ l. pointed (run step l fresh);
       hushed = λ l c b r. read-hushed (run step l fresh) _ b (status-read c (run step l fresh) r);
       given = λ l c i r.
           let s : State = run step l fresh in
-          let n : busy s ≡ false = facts (reached l) .int-not-busy i in
+          let n : busy s ≡ false = not-busy s i in
           let t : ReadTold s (step c s) = status-read c s r in
           let u = unmoved s (reached l) i c (no-reset 0 c s (read-clears s (step c s) n t)) in
           record {
             code = read-gives s (step c s) n t;
             bus = u .wire;
-            command = u .transfer;
+            command = u .command;
           };
       belongs = λ l i. owed-belongs l (run step l fresh .status .code) (unread i refl);
     }

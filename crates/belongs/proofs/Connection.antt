@@ -18,7 +18,7 @@ use Rattle.chip.specs.State.{fresh}
 use Rattle.chip.specs.Interrupts.{interrupted, inEnding, busy, isIncoming, raise, unlessInterrupt, outgoingDropped, bytesUnread}
 use Rattle.chip.specs.SelectAndTransfer as X
 use Rattle.chip.specs.Commands.{isValid, isRefusedBusy, entryOf, table, reset, aborted, disconnected, selecting, selectAndTransferBegun, transferInfoBegun, carriedOut, accepted, commanded}
-use Rattle.chip.specs.Connections.{isConnected, isDisconnected}
+use Rattle.chip.specs.Connections.{isConnected, isDisconnected, isSelecting}
 use Rattle.chip.specs.Registers as R
 use Rattle.chip.specs.Events as E
 use Rattle.chip.specs.Calls.{Call, Outcome, pointer, auxiliary, register, block, time, answer, reselection, request, free, isGood, isSet, carried, step, run}
@@ -27,14 +27,15 @@ use Rattle.chip.specs.declared.Wire.{Wire}
 use Rattle.chip.specs.declared.Reply.{Reply}
 use Rattle.chip.specs.declared.Connection.{Connection}
 use Rattle.chip.specs.declared.Connection.the-variants.{Disconnected, Selecting, Connected}
-use Rattle.chip.specs.declared.Running.{Running}
+use Rattle.chip.specs.declared.Command.{Command}
 use Rattle.chip.proofs.Cases.{by-pick, by-case, by-test, both-first, both-second, either-second}
 use Rattle.reached.specs.Sound.{Sound}
-use Rattle.unread.specs.Status.{isCommand, isReset, isSelectCode}
+use Rattle.unread.specs.Status.{pendingIn, isCommand, isReset, isSelectCode}
 use Rattle.unread.specs.Because.{Quiet, ReadsLast, byte, slice}
 use Rattle.unread.proofs.Choosing.{one-of}
-use Rattle.unread.proofs.Telling.{Summary, quiet-of}
-use Rattle.unread.proofs.Host.{select-idle, transfer-selects, not-busy-runs, not-busy-ends, abort-ends, abort-runs, is-command, own-code, is-disconnect, is-read, Drains, drains-nothing, drains-wait, drains-ending, then, pops, block-drains, written-keeps, block-keeps, stored-keeps}
+use Rattle.unread.proofs.Telling.{Summary}
+use Rattle.unread.proofs.Pendings.{quiet-of}
+use Rattle.unread.proofs.Host.{select-idle, transfer-selects, not-busy-runs, not-busy-ends, abort-goes, is-command, own-code, is-disconnect, is-read, Drains, drains-nothing, drains-wait, drains-ending, then, pops, block-drains, written-keeps, block-keeps, stored-keeps}
 use Rattle.unread.proofs.Placed.{place}
 use Rattle.belongs.specs.Connection as C
 use Rattle.belongs.specs.Connection.{letsGo, Goes, ConnectionGoes}
@@ -56,7 +57,7 @@ module _ (s : State) where
       → (isIncoming (s .transfer .direction) ≡ true → 0 < waits (s .fifo) → waits (s .fifo) ≤ n → ReadsLast c s) → Drains n s z
       → Sorted c s (z .connection)
   drained-goes h drains-nothing = inl refl
-  drained-goes h (drains-wait d w v e) = inr (C.reads-out e (h d w v))
+  drained-goes h (drains-wait d w v e) = inr (C.reads-out (ap pendingIn e) (h d w v))
   drained-goes h (drains-ending d w v e) = inl refl
 
   block-goes : (m : ℕ) (l : List ℕ) → isGood (block m l) ≡ true → Sorted (block m l) s (place (carried (block m l) s .state))
@@ -81,13 +82,13 @@ module _ (s : State) (i : interrupted s ≡ false) where
     unfolding aborted accepted raise outgoingDropped
     aborted-goes e v =
         by-case Leads _ (λ x. inl (ended-stays _ _))
-        (λ x. inr (C.aborts (own 0x01 e) (quiet-of _ i (abort-ends _ s e v)) (abort-runs _ s e v) x))
+        (λ x. inr (C.aborts (own 0x01 e) (abort-goes _ s e v) x))
 
     selects-goes : isRefusedBusy (codeOf b) s ≡ false → isSelectCode (codeOf b) ≡ true → isValid (codeOf b) s ≡ true
         → place s ≡ Disconnected → Goes (register m b) s Selecting
     selects-goes r w v x =
         let idle : busy s ≡ false = select-idle (codeOf b) s w r in
-        C.selects (codeOf b) (own-code m b s good set at) w (quiet-of _ i (not-busy-ends s idle)) (not-busy-runs s idle) x v
+        C.selects (codeOf b) (own-code m b s good set at) w (quiet-of s i (not-busy-ends s idle)) (not-busy-runs s idle) x v
 
     -- where 06 and 07 are valid, and 08 and 09
     only-apart : either (eqb (codeOf b) 0x06) (eqb (codeOf b) 0x07) ≡ true → isValid (codeOf b) s ≡ true → place s ≡ Disconnected
@@ -105,7 +106,7 @@ module _ (s : State) (i : interrupted s ≡ false) where
         (one-of (λ (j : ℕ). isValid j s ≡ true → either (isConnected (place s)) (isDisconnected (place s)) ≡ true) 0x08 0x09 (codeOf b) w (both-first _ _) (both-first _ _) v)
         x)
 
-    transferring-goes : (r : Running) → either (eqb (codeOf b) 0x08) (eqb (codeOf b) 0x09) ≡ true → isRefusedBusy (codeOf b) s ≡ false
+    transferring-goes : (r : Command) → either (eqb (codeOf b) 0x08) (eqb (codeOf b) 0x09) ≡ true → isRefusedBusy (codeOf b) s ≡ false
         → isValid (codeOf b) s ≡ true → Leads (selectAndTransferBegun r (accepted b s))
     unfolding selectAndTransferBegun X.resumed accepted selecting X.fromDisconnected loaded
     transferring-goes r w f v =
@@ -159,25 +160,23 @@ module _ (s : State) (i : interrupted s ≡ false) where
 
   -- the bus events
   time-goes : (n : ℕ) → isGood (time n) ≡ true → Sorted (time n) s (to (E.passed n s))
-  unfolding E.passed E.selectionTime E.timedOut raise outgoingDropped
+  unfolding E.passed E.selects E.selectionTime E.timedOut raise outgoingDropped
   time-goes n good =
-      by-case So _ (λ e. inl refl)
-      (λ e. by-case So _
-      (λ x. by-pick So _ (inl refl)
-      (by-case So _ (λ t. inl refl)
-      (λ t. by-case So _ (λ u. inr (C.times-out good (quiet-of _ i e) (is-selecting _ x) t u)) (λ u. inl refl))))
-      (λ x. inl refl))
+      by-case So _
+      (λ x. by-case So _ (λ t. inl refl)
+      (λ t. by-case So _
+      (λ u. inr (C.times-out good (both-second (isSelecting (place s)) _ x) (is-selecting _ (both-first _ _ x)) t u)) (λ u. inl refl)))
+      (λ x. inl refl)
     where
       So : Reply → Type 0
       So r = Sorted (time n) s (to r)
 
   answer-goes : Sorted answer s (to (E.answered s))
-  unfolding E.answered E.answeredSelecting E.answeredState E.connected raise outgoingDropped unlessInterrupt
+  unfolding E.answered E.selects E.answeredSelecting E.answeredState E.connected raise outgoingDropped
   answer-goes =
       by-case So _
-      (λ x. by-case So _ (λ e. inl refl)
-      (λ e. let h : Goes answer s Connected = C.answers (quiet-of _ i e) (is-selecting _ x) in
-      by-pick So _ (inr h) (by-pick So _ (inl refl) (inr h))))
+      (λ x. let h : Goes answer s Connected = C.answers (both-second (isSelecting (place s)) _ x) (is-selecting _ (both-first _ _ x)) in
+      by-pick So _ (inr h) (inr h))
       (λ x. inl refl)
     where
       So : Reply → Type 0
@@ -196,12 +195,12 @@ module _ (s : State) (i : interrupted s ≡ false) where
       So r = Sorted (reselection lines) s (to r)
 
       joins : qualifies lines s ≡ true → inEnding s ≡ false → isConnected (place s) ≡ false → Goes (reselection lines) s Connected
-      joins q e x = C.reselects good (quiet-of _ i e) q x
+      joins q e x = C.reselects good (quiet-of s i e) q x
 
   free-goes : Sorted free s (to (E.freed s))
   unfolding E.freed
   free-goes =
-      by-case So _ (λ x. by-case So _ (λ e. inl refl) (λ e. leaves (quiet-of _ i e) (is-connected _ x))) (λ x. inl refl)
+      by-case So _ (λ x. by-case So _ (λ e. inl refl) (λ e. leaves (quiet-of s i e) (is-connected _ x))) (λ x. inl refl)
     where
       So : Reply → Type 0
       So r = Sorted free s (to r)

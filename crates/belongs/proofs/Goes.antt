@@ -10,8 +10,8 @@ use lib.Dec.{eqb, leb}
 use borrow.Author.Tests.{not-true}
 use Rattle.chip.specs.Choice.{pick, both}
 use Rattle.chip.specs.Lines.{idi, qualifies}
-use Rattle.chip.specs.Interrupts.{interrupted, isInterrupt, isEnding, raise, endingWith, unlessInterrupt, outgoingDropped, bytesUnread}
-use Rattle.chip.specs.Running.{isRunning, isSelectAndTransfer}
+use Rattle.chip.specs.Interrupts.{interrupted, raise, endingWith, unlessInterrupt, outgoingDropped, bytesUnread}
+use Rattle.chip.specs.Activity.{isRunning, goesOn, isSelectAndTransfer}
 use Rattle.chip.specs.TransferInfo as I
 use Rattle.chip.specs.SelectAndTransfer as X
 use Rattle.chip.specs.Commands.{isValid, aborted, selecting, selectAndTransferBegun, carriedOut, accepted}
@@ -23,14 +23,15 @@ use Rattle.chip.specs.declared.State.{State}
 use Rattle.chip.specs.declared.Reply.{Reply}
 use Rattle.chip.specs.declared.Connection.{Connection}
 use Rattle.chip.specs.declared.Connection.the-variants.{Disconnected, Selecting, Waiting, Connected}
-use Rattle.chip.specs.declared.Running.{Running}
+use Rattle.chip.specs.declared.Command.{Command}
 use Rattle.chip.proofs.Cases.{by-pick, by-case, both-first, both-second, taken, passed-over}
 use Rattle.unread.specs.Status.{isCommand, isReset, isSelectCode, isDisconnect}
 use Rattle.unread.specs.Because.{Quiet, byte}
 use Rattle.unread.proofs.Choosing.{clash}
 use Rattle.unread.proofs.Host.{each-select}
 use Rattle.unread.proofs.Told.{good-step, Issued, issued}
-use Rattle.unread.proofs.Rows.{taken-command, abort-taken, kept-free}
+use Rattle.unread.proofs.Rows.{taken-command, abort-taken, kept-free, selecting-now}
+use Rattle.unread.proofs.Pendings.{int-by, end-by, going-quiet}
 use Rattle.unread.proofs.Asked.{transfer-freed}
 use Rattle.unread.proofs.Bytes.{ending-stays}
 use Rattle.unread.proofs.Placed.{place}
@@ -53,16 +54,16 @@ reset-parts c s e = ending-stays .reset-whole c s e .connection
 disconnect-parts : (c : Call) (s : State) → isDisconnect c s ≡ true → interrupted s ≡ false → place (step c s .state) ≡ Disconnected
 disconnect-parts c s d i = ending-stays .dropped-whole c s d i .connection
 
-module _ (c : Call) (s : State) (q : Quiet s) where
-  abort-parts : isCommand 0x01 c s ≡ true → isRunning (s .transfer .running) ≡ true → isConnected (place s) ≡ false
+module _ (c : Call) (s : State) where
+  abort-parts : isCommand 0x01 c s ≡ true → goesOn (s .activity) ≡ true → isConnected (place s) ≡ false
       → place (step c s .state) ≡ Disconnected
   unfolding R.stepped aborted accepted raise outgoingDropped
-  abort-parts e runs x =
+  abort-parts e on x =
       let h : Issued 0x01 c s = issued 0x01 c s e in
-      rw (h .leaves, abort-taken c s q runs (h .byte) (h .code)) (ap place (passed-over _ _ x))
+      rw (h .leaves, abort-taken c s (going-quiet s on) on (h .byte) (h .code)) (ap place (passed-over _ _ x))
 
-  module _ (idle : isRunning (s .transfer .running) ≡ false) (x : place s ≡ Disconnected) where
-    transferring-selects : (r : Running) (b : ℕ) → place (selectAndTransferBegun r (accepted b s)) ≡ Selecting
+  module _ (q : Quiet s) (idle : isRunning (s .activity) ≡ false) (x : place s ≡ Disconnected) where
+    transferring-selects : (r : Command) (b : ℕ) → place (selectAndTransferBegun r (accepted b s)) ≡ Selecting
     unfolding selectAndTransferBegun selecting accepted
     transferring-selects r b = ap place (passed-over _ _ (ap isConnected x))
 
@@ -84,36 +85,32 @@ module _ (c : Call) (s : State) (q : Quiet s) where
 comes : (c : Call) (s : State) (r : Reply) {x : Connection} → isGood c ≡ true → carried c s ≡ plain r → to r ≡ x → place (step c s .state) ≡ x
 comes c s r g e h = ap (λ (o : Outcome). place (o .state)) (good-step c s g ∙ e) ∙ h
 
-module _ (s : State) (q : Quiet s) where
-  time-parts : (n : ℕ) → isGood (time n) ≡ true → place s ≡ Selecting → eqb (s .registers .setup .timeout) 0 ≡ false
+module _ (s : State) (on : goesOn (s .activity) ≡ true) (x : place s ≡ Selecting) where
+  time-parts : (n : ℕ) → isGood (time n) ≡ true → eqb (s .registers .setup .timeout) 0 ≡ false
       → leb (s .registers .setup .timeout) (s .wire .elapsed + n) ≡ true → place (step (time n) s .state) ≡ Disconnected
   unfolding carried E.passed E.selectionTime E.timedOut raise outgoingDropped
-  time-parts n g x t l =
-      comes (time n) s (E.passed n s) g refl
-      (ap to
-      (passed-over _ _ (ap isEnding q) ∙ taken _ _ (ap isSelecting x) ∙ passed-over _ _ (ap isInterrupt q) ∙ passed-over _ _ t
-      ∙ taken _ _ l))
+  time-parts n g t l =
+      comes (time n) s (E.passed n s) g refl (ap to (taken _ _ (selecting-now s on x) ∙ passed-over _ _ t ∙ taken _ _ l))
 
-  open-to : (r : Reply) → unlessInterrupt s r ≡ r
-  unfolding unlessInterrupt
-  open-to r = passed-over _ _ (ap isInterrupt q)
-
-  answer-joins : place s ≡ Selecting → place (step answer s .state) ≡ Connected
+  answer-joins : place (step answer s .state) ≡ Connected
   unfolding carried E.answered E.answeredSelecting E.answeredState E.connected raise outgoingDropped isGood
-  answer-joins x =
-      comes answer s (E.answered s) refl refl
-      (ap to (taken _ _ (ap isSelecting x) ∙ passed-over _ _ (ap isEnding q))
-      ∙ by-pick Joins _ refl (ap to (open-to _)))
+  answer-joins =
+      comes answer s (E.answered s) refl refl (ap to (taken _ _ (selecting-now s on x)) ∙ by-pick Joins _ refl refl)
     where
       Joins : Reply → Type 0
       Joins r = to r ≡ Connected
+
+module _ (s : State) (q : Quiet s) where
+  open-to : (r : Reply) → unlessInterrupt s r ≡ r
+  unfolding unlessInterrupt
+  open-to r = passed-over _ _ (int-by s q)
 
   reselection-joins : (lines : ℕ) → isGood (reselection lines) ≡ true → qualifies lines s ≡ true → isConnected (place s) ≡ false
       → place (step (reselection lines) s .state) ≡ Connected
   unfolding carried E.reselected E.reselectedWithCode E.reselectedApart E.reselectedState E.connected raise outgoingDropped
   reselection-joins lines g f x =
       comes (reselection lines) s (E.reselected lines s) g refl
-      (ap to (taken _ _ f ∙ passed-over _ _ x ∙ passed-over _ _ (ap isEnding q)) ∙ by-pick Joins _ refl (ap to (open-to _)))
+      (ap to (taken _ _ f ∙ passed-over _ _ x ∙ passed-over _ _ (end-by s q)) ∙ by-pick Joins _ refl (ap to (open-to _)))
     where
       Joins : Reply → Type 0
       Joins r = to r ≡ Connected
@@ -122,7 +119,7 @@ module _ (s : State) (q : Quiet s) where
     free-comes : {y : Connection} → to (E.freedRunning s) ≡ y → place (step free s .state) ≡ y
     unfolding carried E.freed isGood
     free-comes h =
-        comes free s (E.freed s) refl refl (ap to (taken _ _ (ap isConnected x) ∙ passed-over _ _ (ap isEnding q)) ∙ h)
+        comes free s (E.freed s) refl refl (ap to (taken _ _ (ap isConnected x) ∙ passed-over _ _ (end-by s q)) ∙ h)
 
     abbrev Parts : Reply → Type 0
     Parts r = to r ≡ Disconnected
@@ -131,20 +128,20 @@ module _ (s : State) (q : Quiet s) where
     unfolding X.selectAndTransferFree X.freeAfterDisconnect X.freeToWait E.busFree both
     transfer-parts e =
         by-case Parts _
-        (λ p. by-case Parts _ (λ d. ap to (open-to _) ∙ ended-stays _ _)
-        (λ d. by-case Parts _ (λ u. ap to (open-to _)) (λ u. clash refl (rw (p, d, u) at e))))
-        (λ p. ap to (open-to _) ∙ ended-stays _ _)
+        (λ p. by-case Parts _ (λ d. ended-stays _ _)
+        (λ d. by-case Parts _ (λ u. refl) (λ u. clash refl (rw (p, d, u) at e))))
+        (λ p. ended-stays _ _)
 
     pub free-parts : both (letsGo s) (not (bytesUnread s)) ≡ false → Parts (E.freedRunning s)
     unfolding E.freedRunning I.transferInfoFree letsGo E.idleFree E.busFree raise outgoingDropped both
     free-parts e =
         by-case Parts _ (λ t. transfer-parts (rw t at e))
-        (λ t. by-pick Parts _ (ap to (open-to _) ∙ ended-stays _ _) (ap to (open-to _)))
+        (λ t. by-pick Parts _ (ended-stays _ _) (ap to (open-to _)))
 
     pub free-waits : letsGo s ≡ true → bytesUnread s ≡ false → to (E.freedRunning s) ≡ Waiting
     unfolding letsGo X.selectAndTransferFree X.freeAfterDisconnect X.freeToWait
     free-waits e u =
-        let f : both (eqb (s .registers .descriptor .phase) 0x42) (not (idi s)) ≡ true = both-second (isSelectAndTransfer (s .transfer .running)) _ e in
+        let f : both (eqb (s .registers .descriptor .phase) 0x42) (not (idi s)) ≡ true = both-second (isSelectAndTransfer (s .activity)) _ e in
         ap to
         (transfer-freed s q x (both-first _ _ e) ∙ taken _ _ (both-first _ _ f)
         ∙ passed-over _ _ (not-true _ (both-second (eqb (s .registers .descriptor .phase) 0x42) _ f))
@@ -153,11 +150,11 @@ module _ (s : State) (q : Quiet s) where
 pub goes-there : {c : Call} {s : State} {x : Connection} → Goes c s x → place (step c s .state) ≡ x
 goes-there {c} {s} (C.resets e) = reset-parts c s e
 goes-there {c} {s} (C.disconnects e i) = disconnect-parts c s e i
-goes-there {c} {s} (C.aborts e q r x) = abort-parts c s q e r x
-goes-there {s = s} (C.times-out {n} g q x t l) = time-parts s q n g x t l
+goes-there {c} {s} (C.aborts e on x) = abort-parts c s e on x
+goes-there {s = s} (C.times-out {n} g on x t l) = time-parts s on x n g t l
 goes-there {c} {s} (C.selects k e w q i x v) = select-selects c s q i x k e w v
-goes-there {s = s} (C.answers q x) = answer-joins s q x
+goes-there {s = s} (C.answers on x) = answer-joins s on x
 goes-there {s = s} (C.reselects {lines} g q f x) = reselection-joins s q lines g f x
 goes-there {s = s} (C.frees q x e) = free-comes s q x (free-parts s q x e)
 goes-there {s = s} (C.lets-go q x e u) = free-comes s q x (free-waits s q x e u)
-goes-there {c} {s} (C.reads-out p l) = ending-stays .waits-then c s p l .1
+goes-there {c} {s} (C.reads-out p l) = ending-stays .waits-then c s p l .2

@@ -1,9 +1,9 @@
--- The promise, and the table of the connection, refuse the wrong steps of specs/Wrong.antt: `Law wrong → ⊥`, each at calls from a fresh controller.
+-- The promise, and the table of the connection, refuse the wrong steps of specs/Wrong.antt: `Law wrong → ⊥`, each at calls that a fresh controller comes to.
 --   late-moves intrudes-moves swallows-taken ticks-moves drops-moves   by StillBus
---   late-lies intrudes-lies swallows-lies eager-lies hangs-up-lies     by StatusBelongs
+--   late-lies intrudes-lies swallows-lies startles-runs hangs-up-lies  by StatusBelongs
 --   hides-silent misleads-unheard unblinds-stale                       by StatusBelongs
 --   late-answered poaches-answered impatient-early dawdles-hangs       by TimedOutIsTrue
---   hollow-parts sticky-stays poaches-selects nods-taken barges-taken  by ConnectionGoes
+--   hollow-parts sticky-stays eager-selects poaches-selects nods-taken barges-taken   by ConnectionGoes
 --   late-wound   what a driver then reads of the disk that has answered: connected, and 42h
 use mathlib.Core.Path.{_≡_, refl, ap}
 use mathlib.Core.Bool.{false}
@@ -14,7 +14,8 @@ use native.Mathlib.Omega.{arith}
 use Rattle.chip.specs.State.{fresh}
 use Rattle.chip.specs.Lines.{bit}
 use Rattle.chip.specs.Answers.{number, value}
-use Rattle.chip.specs.Interrupts.{isEnding}
+use Rattle.chip.specs.Activity.{isEnding}
+use Rattle.chip.specs.Interrupts.{interrupted, inEnding}
 use Rattle.chip.specs.Connections.{isConnected, isDisconnected, isSelecting}
 use Rattle.chip.specs.Calls.{Call, Outcome, pointer, auxiliary, register, time, answer, reselection, free, step, run}
 use Rattle.chip.specs.declared.State.{State}
@@ -23,8 +24,9 @@ use Rattle.chip.specs.declared.Connection.the-variants.{Disconnected, Selecting
 use Rattle.chip.proofs.Computing.{everything}
 use Rattle.unread.specs.Status.{isCommand, isReset, isSelection, readsAt, raised}
 use Rattle.unread.specs.Codes.{Selects}
-use Rattle.unread.specs.Wrong.{instead, drops}
+use Rattle.unread.specs.Wrong.{instead, drops, eager}
 use Rattle.unread.proofs.Choosing.{clash}
+use Rattle.unread.proofs.Pendings.{int-by, end-by}
 use Rattle.unread.proofs.Because.{raised-because, ending-because}
 use Rattle.unread.proofs.Codes.{before, before-one, since-last, since-back}
 use Rattle.unread.proofs.Refuted.{callsEnding}
@@ -34,7 +36,7 @@ use Rattle.belongs.specs.TimedOut.{Waited, begun, passed, TimedOutIsTrue
 use Rattle.belongs.specs.Connection as C
 use Rattle.belongs.specs.Connection.{Goes, ConnectionGoes, letsGo}
 use Rattle.belongs.proofs.Taken.{row-taken}
-use Rattle.belongs.specs.Wrong.{late, intrudes, swallows, ticks, eager, hangsUp, hides, misleads, unblinds, dawdles, impatient, poaches, nods, barges, hollow, sticky}
+use Rattle.belongs.specs.Wrong.{late, intrudes, swallows, ticks, startles, hangsUp, hides, misleads, unblinds, dawdles, impatient, poaches, nods, barges, hollow, sticky}
 
 -- a timeout of 1, a Select, and one unit passes: 42h, unread
 abbrev callsTimedOut : List Call
@@ -54,30 +56,30 @@ late-wound = refl
 
 pub late-moves : StillBus late → ⊥
 unfolding everything run late instead
-late-moves h = clash refl (ap (λ (t : State). isConnected (t .wire .connection)) (h callsTimedOut answer refl refl .same))
+late-moves h = clash refl (ap (λ (t : State). isConnected (t .wire .connection)) (h answer (run late callsTimedOut fresh) refl refl .same))
 
 pub intrudes-moves : StillBus intrudes → ⊥
 unfolding everything run intrudes instead
-intrudes-moves h = clash refl (ap (λ (t : State). isConnected (t .wire .connection)) (h callsTimedOut (reselection 0) refl refl .same))
+intrudes-moves h = clash refl (ap (λ (t : State). isConnected (t .wire .connection)) (h (reselection 0) (run intrudes callsTimedOut fresh) refl refl .same))
 
 pub swallows-taken : StillBus swallows → ⊥
 unfolding everything run swallows instead
-swallows-taken h = clash (h callsSelected free refl refl .not-taken) refl
+swallows-taken h = clash (h free (run swallows callsSelected fresh) refl refl .not-taken) refl
 
 pub ticks-moves : StillBus ticks → ⊥
 unfolding everything run ticks instead
 ticks-moves h =
-    let z : _≡_ {A = ℕ} 1 0 = ap (λ (t : State). t .wire .elapsed) (h callsTimedOut (time 1) refl refl .same) in omega arith
+    let z : _≡_ {A = ℕ} 1 0 = ap (λ (t : State). t .wire .elapsed) (h (time 1) (run ticks callsTimedOut fresh) refl refl .same) in omega arith
 
 pub drops-moves : StillBus drops → ⊥
 unfolding everything run drops instead
-drops-moves h = clash (ap (λ (t : State). isEnding (t .status .pending)) (h callsEnding (time 1) refl refl .same)) refl
+drops-moves h = clash (ap (λ (t : State). isEnding (t .activity)) (h (time 1) (run drops callsEnding fresh) refl refl .same)) refl
 
 -- a call that raises no code, and begins no ending, is the cause of none
-no-cause : (c : Call) (s : State) {k : ℕ} → raised c s (step c s .state) ≡ false → isEnding (step c s .state .status .pending) ≡ false
+no-cause : (c : Call) (s : State) {k : ℕ} → raised c s (step c s .state) ≡ false → inEnding (step c s .state) ≡ false
     → Causes c s k → ⊥
 no-cause c s {k} n e (at-once b o) = clash (raised-because .complete c s k b) n
-no-cause c s {k} n e (to-come b) = clash (ap isEnding (ending-because .complete c s k b)) e
+no-cause c s {k} n e (to-come b) = clash (end-by (step c s .state) (ending-because .complete c s k b)) e
 
 -- the last call neither is the cause of the code nor leaves it undisturbed
 
@@ -101,12 +103,10 @@ swallows-lies h =
     since-last auxiliary (no-cause free (run swallows callsSelected fresh) refl refl) (λ u. clash (u .still refl .not-taken) refl)
     (h .belongs (callsSelected ++ (free ∷ [])) refl)
 
-pub eager-lies : StatusBelongs eager → ⊥
-unfolding everything run eager instead raised isReset isCommand isSelection
-eager-lies h =
-    since-last auxiliary (no-cause (register 1 0x06) (run eager callsTimedOut fresh) refl refl)
-    (λ u. clash (ap isDisconnected (u .placed)) refl)
-    (h .belongs (callsTimedOut ++ (register 1 0x06 ∷ [])) refl)
+pub startles-runs : StatusBelongs startles → ⊥
+unfolding everything run startles readsAt
+startles-runs h =
+    let z : _≡_ {A = ℕ} 5 0 = h .given (callsSelected ++ (pointer 1 0x17 ∷ [])) (register 0 0) refl refl .command .running in omega arith
 
 pub hangs-up-lies : StatusBelongs hangsUp → ⊥
 unfolding everything run hangsUp readsAt
@@ -185,6 +185,16 @@ sticky-stays h =
 -- only a Disconnected controller selects
 selects-apart : {c : Call} {s : State} → Goes c s Selecting → s .wire .connection ≡ Disconnected
 selects-apart (C.selects k e w q i x v) = x
+
+-- .. with nothing unread
+selects-quiet : {c : Call} {s : State} → Goes c s Selecting → interrupted s ≡ false
+selects-quiet {s = s} (C.selects k e w q i x v) = int-by s q
+
+-- 42h is unread
+pub eager-selects : ConnectionGoes eager → ⊥
+unfolding everything run eager instead isSelection
+eager-selects h =
+    ⊎-elim (λ e. clash (ap isDisconnected e) refl) (λ g. clash refl (selects-quiet g)) (h .sound callsTimedOut (register 1 0x06))
 
 -- a Select-And-Transfer, and the Target answers
 pub poaches-selects : ConnectionGoes poaches → ⊥

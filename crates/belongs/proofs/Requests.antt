@@ -34,20 +34,20 @@ module _ (s : State) where
 
   unless-halted : (bad : Bool) (r : Reply) → Rests r → Rests (I.unlessHalted bad s r)
   unfolding I.unlessHalted I.halted
-  unless-halted bad r h = by-pick Rests _ (unless-int _ (ended-stays _ _)) h
+  unless-halted bad r h = by-pick Rests _ (ended-stays _ _) h
 
   info-rests : (p : Phase) (b : ℕ) (bad : Bool) → Rests (I.transferInfoRequest p b bad s)
   unfolding I.transferInfoRequest I.transferInfoOffered I.transferInfoTaken I.transferInfoSent I.transferInfoOver I.takenIn I.parityNoted lowered
   info-rests p b bad =
       by-pick Rests _
       (by-pick Rests _
-      (by-pick Rests _ (unless-halted bad _ (by-pick Rests _ (unless-int _ (ended-stays _ _)) refl)) refl)
+      (by-pick Rests _ (unless-halted bad _ (by-pick Rests _ (ended-stays _ _) refl)) refl)
       (by-pick Rests _ refl refl))
-      (unless-int _ (ended-stays _ _))
+      (ended-stays _ _)
 
   surprise-rests : (p : Phase) → Rests (X.unexpected p s)
   unfolding X.unexpected
-  surprise-rests p = unless-int _ (ended-stays _ _)
+  surprise-rests p = ended-stays _ _
 
   send-rests : Rests (X.sendData s)
   unfolding X.sendData lowered
@@ -76,7 +76,7 @@ module _ (s : State) where
   message-rests : (b : ℕ) (bad : Bool) → Rests (X.takeMessage b bad s)
   unfolding X.takeMessage X.takeSave X.takeDisconnect I.parityNoted
   message-rests b bad =
-      by-pick Rests _ (unless-halted bad _ (unless-int _ (ended-stays _ _)))
+      by-pick Rests _ (unless-halted bad _ (ended-stays _ _))
       (by-pick Rests _ (unless-halted bad _ refl) (surprise-rests MessageIn))
 
   body-rests : (p : Phase) (b : ℕ) (bad : Bool) → Rests (X.bodyRequest p b bad s)
@@ -110,7 +110,7 @@ module _ (s : State) where
   stage-rests Disconnecting p b bad = surprise-rests p
   stage-rests Reselected p b bad = by-pick Rests _ (unless-halted bad _ refl) (surprise-rests p)
   stage-rests AfterStatus p b bad =
-      by-pick Rests _ (unless-halted bad _ (unless-int _ (ended-stays _ _))) (surprise-rests p)
+      by-pick Rests _ (unless-halted bad _ (ended-stays _ _)) (surprise-rests p)
   stage-rests Elsewhere p b bad = surprise-rests p
 
   idle-rests : (p : Phase) → Rests (E.idleRequest p s)

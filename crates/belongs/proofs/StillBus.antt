@@ -1,62 +1,33 @@
 -- The law of specs/StillBus.antt holds of the step.
 --   still-bus    while something is pending for the host, no bus event changes the controller
---   Calm calm    of a reached state with INT: no command runs, and no selection and no wait goes on
+--   unread-still   .. a status that nobody has read
 use mathlib.Core.Path.{_≡_, refl, ap, _∙_}
 use mathlib.Core.Bool.{Bool, true, false}
-use mathlib.Core.Logic.{_⊎_, inl, inr, ⊎-elim}
 use Prim.Native.Nat.{ℕ}
+use Rattle.chip.specs.Choice.{pick, both}
 use Rattle.chip.specs.Lines.{qualifies}
 use Rattle.chip.specs.Answers.{held, outOfPlace}
-use Rattle.chip.specs.State.{fresh}
-use Rattle.chip.specs.Interrupts.{interrupted, isInterrupt, isEnding, unlessInterrupt, inEnding}
+use Rattle.chip.specs.Activity.{goesOn, isSelectAndTransfer, isTransferInfo}
+use Rattle.chip.specs.Interrupts.{interrupted, unlessInterrupt, inEnding}
+use Rattle.chip.specs.Connections.{isWaiting, isConnected}
 use Rattle.chip.specs.Events as E
-use Rattle.chip.specs.Calls.{Call, time, answer, reselection, request, free, step, run}
+use Rattle.chip.specs.Calls.{Call, step}
 use Rattle.chip.specs.declared.State.{State}
 use Rattle.chip.specs.declared.Reply.{Reply}
 use Rattle.chip.specs.declared.Phase.{Phase}
-use Rattle.chip.specs.declared.Fifo.{Fifo}
-use Rattle.chip.specs.declared.Noted.{Noted}
-use Rattle.chip.specs.declared.Direction.{Direction}
-use Rattle.chip.specs.declared.Pending.{Pending}
-use Rattle.chip.specs.declared.Pending.the-variants.{Interrupt}
-use Rattle.chip.specs.declared.Running.{Running}
-use Rattle.chip.specs.declared.Running.the-variants.{Idle}
-use Rattle.chip.specs.declared.Connection.{Connection}
-use Rattle.chip.specs.declared.Connection.the-variants.{Disconnected, Connected}
-use Rattle.chip.proofs.Cases.{by-pick, by-test, either-second, passed-over, taken, by-case, both-first}
-use Rattle.reached.specs.Sound.{Shape, idle, selects, waits, selectsAndTransfers, transfersInfo, ending, readOut, apart, joined, Sound}
-use Rattle.reached.proofs.Laws.{reached}
+use Rattle.chip.specs.declared.Activity.the-variants.{Interrupt}
+use Rattle.chip.proofs.Cases.{by-pick, by-case, by-test, either-second, passed-over, taken}
 use Rattle.unread.specs.Ending.{isEvent, isRefusal, Untouched}
-use Rattle.unread.proofs.Choosing.{clash}
+use Rattle.unread.proofs.Choosing.{clash, second-fails}
 use Rattle.unread.proofs.Unread.{int-pending}
 use Rattle.unread.proofs.Ending.{Refuses, Stands, stands-still, ending-is-still}
 use Rattle.belongs.specs.StillBus.{StillBus}
-use Rattle.chip.specs.Connections.{isSelecting, isWaiting, isConnected}
-use Rattle.chip.specs.Running.{isSelectAndTransfer, isTransferInfo}
-use Rattle.chip.specs.Choice.{pick}
 
-pub record Calm (s : State) : Type 0 where
-  pub pending : s .status .pending ≡ Interrupt
-  pub running : s .transfer .running ≡ Idle
-  pub place : (s .wire .connection ≡ Disconnected) ⊎ (s .wire .connection ≡ Connected)
+module _ (s : State) (i : interrupted s ≡ true) where
+  -- no command runs
+  int : s .activity ≡ Interrupt
+  int = int-pending s .0 i
 
-at-rest : {single : Bool} {n : ℕ} {p : Pending} {r : Running} {c : Connection} {d : Direction} {q : Fifo} {atn ack : Bool} {w : Noted}
-    → isInterrupt p ≡ true → Shape single n p r c d q atn ack w → (r ≡ Idle) × ((c ≡ Disconnected) ⊎ (c ≡ Connected))
-at-rest i (idle a b c apart) = (refl, inl refl)
-at-rest i (idle a b c joined) = (refl, inr refl)
-at-rest i (selects a b c) = clash i refl
-at-rest i (waits a b) = clash i refl
-at-rest i (selectsAndTransfers a b) = clash i refl
-at-rest i (transfersInfo a b) = clash i refl
-at-rest i (ending a b c) = clash i refl
-at-rest i (readOut a b) = clash i refl
-
-pub calm : {s : State} → Sound s → interrupted s ≡ true → Calm s
-calm {s} x i =
-    let h = at-rest i (x .shape) in
-    record { pending = int-pending s .0 i; running = h .0; place = h .1 }
-
-module _ (s : State) (k : Calm s) where
   abbrev Back : Reply → Type 0
   Back r = Refuses s r
 
@@ -65,14 +36,22 @@ module _ (s : State) (k : Calm s) where
 
   holds : (r : Reply) → Holds (unlessInterrupt s r)
   unfolding unlessInterrupt
-  holds r = taken _ _ (ap isInterrupt (k .pending))
+  holds r = taken _ _ i
 
-  -- no selection runs, and nobody waits for reselection
-  not-selecting : isSelecting (s .wire .connection) ≡ false
-  not-selecting = ⊎-elim (ap isSelecting) (ap isSelecting) (k .place)
+  -- no selection runs, and no Select-And-Transfer waits for reselection
+  no-selection : E.selects s ≡ false
+  unfolding E.selects
+  no-selection = second-fails _ _ (ap goesOn int)
 
-  not-waiting : isWaiting (s .wire .connection) ≡ false
-  not-waiting = ⊎-elim (ap isWaiting) (ap isWaiting) (k .place)
+  no-transfer : isSelectAndTransfer (s .activity) ≡ false
+  no-transfer = ap isSelectAndTransfer int
+
+  no-info : isTransferInfo (s .activity) ≡ false
+  no-info = ap isTransferInfo int
+
+  not-awaited : (lines : ℕ) → both (isWaiting (s .wire .connection)) (E.namesTarget lines s) ≡ false
+  unfolding E.namesTarget both
+  not-awaited lines = second-fails (isWaiting (s .wire .connection)) (E.namesTarget lines s) (rw no-transfer)
 
   held-back : {r : Reply} → Holds r → Back r
   held-back e = record { same = ap (λ (x : Reply). x .state) e; refused = ap (λ (x : Reply). isRefusal (x .answer)) e }
@@ -86,13 +65,13 @@ module _ (s : State) (k : Calm s) where
   request-holds p b bad =
       by-pick Holds _ refl
       (by-pick Holds _ refl
-      (passed-over _ _ (ap isSelectAndTransfer (k .running)) ∙ passed-over _ _ (ap isTransferInfo (k .running)) ∙ idle-holds p))
+      (passed-over _ _ no-transfer ∙ passed-over _ _ no-info ∙ idle-holds p))
 
   free-holds : Holds (pick (inEnding s) (held s) (E.freedRunning s))
   unfolding E.freedRunning E.idleFree
   free-holds =
       by-pick Holds _ refl
-      (passed-over _ _ (ap isSelectAndTransfer (k .running)) ∙ passed-over _ _ (ap isTransferInfo (k .running)) ∙ holds _)
+      (passed-over _ _ no-transfer ∙ passed-over _ _ no-info ∙ holds _)
 
   request-back : (p : Phase) (b : ℕ) (bad : Bool) → Back (E.requested p b bad s)
   unfolding E.requested
@@ -107,16 +86,14 @@ module _ (s : State) (k : Calm s) where
   unfolding E.reselectedApart E.reselectedWithCode
   reselection-back lines =
       by-pick Back _ (record { same = refl; refused = refl })
-      (held-back (by-pick Holds _ refl (by-case Holds _ (λ w. clash (both-first _ _ w) not-waiting) (λ w. holds _))))
+      (held-back (by-pick Holds _ refl (by-case Holds _ (λ w. clash w (not-awaited lines)) (λ w. holds _))))
 
   unread-stands : Stands s
   unfolding E.passed E.answered E.reselected E.freed
   unread-stands =
       record {
-        time = λ n.
-            passed-over _ _ (ap isEnding (k .pending)) ∙ passed-over _ _ not-selecting;
-        answer =
-            by-case Back _ (λ x. clash x not-selecting) (λ x. record { same = refl; refused = refl });
+        time = λ n. passed-over _ _ no-selection;
+        answer = by-case Back _ (λ x. clash x no-selection) (λ x. record { same = refl; refused = refl });
         reselection = λ lines. by-pick Back (qualifies lines s) (reselection-back lines) (record { same = refl; refused = refl });
         request = request-back;
         free = by-pick Back _ (held-back free-holds) (record { same = refl; refused = refl });
@@ -126,6 +103,4 @@ module _ (s : State) (k : Calm s) where
   unread-still c v = stands-still unread-stands c v
 
 pub still-bus : StillBus step
-still-bus l c o v =
-    by-test (interrupted (run step l fresh)) (λ i. unread-still (run step l fresh) (calm (reached l) i) c v)
-    (λ i. ending-is-still c (run step l fresh) (either-second (interrupted (run step l fresh)) _ o i) v)
+still-bus c s o v = by-test (interrupted s) (λ i. unread-still s i c v) (λ i. ending-is-still c s (either-second (interrupted s) _ o i) v)

@@ -9,7 +9,7 @@ use borrow.Author.Tests.{not-true}
 use Rattle.chip.specs.Choice.{pick, both, either}
 use Rattle.chip.specs.Lines.{qualifies}
 use Rattle.chip.specs.State.{fresh}
-use Rattle.chip.specs.Interrupts.{interrupted, isInterrupt, inEnding, isEnding, unlessInterrupt, bytesUnread}
+use Rattle.chip.specs.Interrupts.{interrupted, inEnding, unlessInterrupt, bytesUnread}
 use Rattle.chip.specs.TransferInfo as I
 use Rattle.chip.specs.SelectAndTransfer as X
 use Rattle.chip.specs.Connections.{isConnected, isSelecting}
@@ -25,7 +25,9 @@ use Rattle.unread.specs.Status.{isCommandOf, isCommand, isReset, isDisconnect, 
 use Rattle.unread.specs.Because.{Quiet, ReadsLast, byte, slice}
 use Rattle.unread.specs.Ending.{isEvent, Untouched}
 use Rattle.unread.proofs.Choosing.{clash}
-use Rattle.unread.proofs.Telling.{quiet-of}
+use Rattle.unread.proofs.Pendings.{int-by, end-by, quiet-of}
+use Rattle.unread.proofs.Rows.{selecting-now}
+use Rattle.chip.specs.Activity.{goesOn}
 use Rattle.unread.proofs.Told.{good-step}
 use Rattle.unread.proofs.Ending.{Refuses, refuses, refuses-bad}
 use Rattle.belongs.specs.StillBus.{isPending}
@@ -40,14 +42,10 @@ module _ (s : State) (q : Quiet s) where
 
   unless-int : (r : Reply) → Takes r → Takes (unlessInterrupt s r)
   unfolding unlessInterrupt
-  unless-int r h = by-case Takes _ (λ i. clash i (ap isInterrupt q)) (λ i. h)
+  unless-int r h = by-case Takes _ (λ i. clash i (int-by s q)) (λ i. h)
 
   unless-ends : (r a : Reply) → Takes r → Takes (pick (inEnding s) a r)
-  unless-ends r a h = by-case Takes _ (λ e. clash e (ap isEnding q)) (λ e. h)
-
-  answer-takes : Takes (E.answeredSelecting s)
-  unfolding E.answeredSelecting
-  answer-takes = unless-ends _ _ (by-pick Takes _ refl (unless-int _ refl))
+  unless-ends r a h = by-case Takes _ (λ e. clash e (end-by s q)) (λ e. h)
 
   with-code-takes : (lines : ℕ) → Takes (E.reselectedWithCode lines s)
   unfolding E.reselectedWithCode
@@ -60,11 +58,16 @@ module _ (s : State) (q : Quiet s) where
   transfer-takes : Takes (X.selectAndTransferFree s (E.busFree s))
   unfolding X.selectAndTransferFree X.freeAfterDisconnect X.freeToWait
   transfer-takes =
-      by-pick Takes _ (by-pick Takes _ (unless-int _ refl) (by-pick Takes _ (unless-int _ refl) refl)) (unless-int _ refl)
+      by-pick Takes _ (by-pick Takes _ refl (by-pick Takes _ refl refl)) refl
 
   freed-takes : Takes (E.freedRunning s)
   unfolding E.freedRunning I.transferInfoFree E.idleFree
-  freed-takes = by-pick Takes _ transfer-takes (by-pick Takes _ (unless-int _ refl) (unless-int _ refl))
+  freed-takes = by-pick Takes _ transfer-takes (by-pick Takes _ refl (unless-int _ refl))
+
+-- an Answer to a selection that runs
+answer-takes : (s : State) → E.answeredSelecting s .answer ≡ Done 0
+unfolding E.answeredSelecting
+answer-takes s = by-pick (λ (r : Reply). r .answer ≡ Done 0) _ refl refl
 
 -- an event by what it comes to
 comes : (c : Call) (s : State) (r : Reply) → isGood c ≡ true → carried c s ≡ plain r → r .answer ≡ Done 0 → step c s .answer ≡ Done 0
@@ -110,11 +113,11 @@ pub row-taken : {c : Call} {s : State} {x : Connection} → isCaller c ≡ true 
 unfolding carried E.answered E.reselected isGood isReset isDisconnect either
 row-taken v (C.resets {c} {s} e) = clash e (no-command 0x00 c s v)
 row-taken v (C.disconnects {c} {s} e i) = clash (both-first _ _ e) (no-command 0x04 c s v)
-row-taken v (C.aborts {c} {s} e q r x) = clash e (no-command 0x01 c s v)
-row-taken v (C.times-out g q x t l) = clash v refl
+row-taken v (C.aborts {c} {s} e on x) = clash e (no-command 0x01 c s v)
+row-taken v (C.times-out g on x t l) = clash v refl
 row-taken v (C.selects {c} {s} k e w q r x u) = clash e (no-command k c s v)
-row-taken v (C.answers {s} q x) =
-    comes answer s (E.answered s) refl refl (ap (λ (r : Reply). r .answer) (taken _ _ (ap isSelecting x)) ∙ answer-takes s q)
+row-taken v (C.answers {s} on x) =
+    comes answer s (E.answered s) refl refl (ap (λ (r : Reply). r .answer) (taken _ _ (selecting-now s on x)) ∙ answer-takes s)
 row-taken v (C.reselects {lines} {s} g q f x) =
     comes (reselection lines) s (E.reselected lines s) g refl
     (ap (λ (r : Reply). r .answer) (taken _ _ f ∙ passed-over _ _ x) ∙ reselection-takes s q lines)
@@ -129,10 +132,11 @@ module _ (s : State) (q : Quiet s) where
   Back r = Refuses s r
 
   answer-elsewhere : ((x : Connection) → Goes answer s x → ⊥) → Untouched step answer s
-  unfolding carried E.answered isGood
+  unfolding carried E.answered E.selects isGood
   answer-elsewhere n =
       refuses answer s (E.answered s) (good-step answer s refl)
-      (by-case Back (isSelecting (s .wire .connection)) (λ x. absurd (n Connected (C.answers q (is-selecting _ x))))
+      (by-case Back (E.selects s)
+      (λ x. absurd (n Connected (C.answers (both-second (isSelecting (s .wire .connection)) _ x) (is-selecting _ (both-first _ _ x)))))
       (λ x. record { same = refl; refused = refl }))
 
   reselection-elsewhere : (lines : ℕ) → ((x : Connection) → Goes (reselection lines) s x → ⊥) → Untouched step (reselection lines) s
@@ -185,5 +189,5 @@ caller-event free v = refl
 pub elsewhere : (l : List Call) (c : Call) → isCaller c ≡ true → ((x : Connection) → Goes c (run step l fresh) x → ⊥)
     → Untouched step c (run step l fresh)
 elsewhere l c v n =
-    by-test (isPending (run step l fresh)) (λ p. still-bus l c p (caller-event c v))
-    (λ p. quiet-elsewhere c (run step l fresh) (quiet-of _ (either-first _ _ p) (either-rest (interrupted (run step l fresh)) _ p)) v n)
+    by-test (isPending (run step l fresh)) (λ p. still-bus c (run step l fresh) p (caller-event c v))
+    (λ p. quiet-elsewhere c (run step l fresh) (quiet-of (run step l fresh) (either-first _ _ p) (either-rest (interrupted (run step l fresh)) _ p)) v n)

@@ -27,7 +27,7 @@ use Rattle.unread.proofs.Codes.{run-more, since-map, time-ends-nothing, codes-o
 use Rattle.belongs.specs.Belongs.{Causes, at-once, to-come, unread, Undisturbed}
 use Rattle.belongs.specs.TimedOut.{units, Waited, TurnedAway, RanOut, TimedOutIsTrue}
 use Rattle.belongs.proofs.Belongs.{owed-belongs}
-use Rattle.belongs.proofs.Waited.{selecting-quiet, HasWaited, waits-for, has-waited, all-added}
+use Rattle.belongs.proofs.Waited.{selecting-goes, HasWaited, waits-for, has-waited, all-added}
 
 -- a Time that raises a code while selecting: the timeout is over, and it leaves the controller Disconnected
 record Over (n : ℕ) (s t : State) : Type 0 where
@@ -41,16 +41,15 @@ Parts n s r = interrupted (r .state) ≡ true → Over n s (r .state)
 passed-over-time : (n : ℕ) (s : State) → s .wire .connection ≡ Selecting → interrupted s ≡ false → Parts n s (E.passed n s)
 unfolding E.passed E.selectionTime E.timedOut raise outgoingDropped
 passed-over-time n s x i =
-    by-pick (Parts n s) _ none (by-pick (Parts n s) _ selecting none)
+    by-pick (Parts n s) _ selecting none
   where
     none : interrupted s ≡ true → Over n s s
     none j = clash j i
 
     selecting : Parts n s (E.selectionTime n s)
     selecting =
-        by-pick (Parts n s) _ none
-        (by-case (Parts n s) _ (λ f. none)
-        (λ f. by-case (Parts n s) _ (λ u j. record { limited = f; over = leb-true _ _ u; apart = refl }) (λ u. λ j. clash j i)))
+        by-case (Parts n s) _ (λ f. none)
+        (λ f. by-case (Parts n s) _ (λ u j. record { limited = f; over = leb-true _ _ u; apart = refl }) (λ u. λ j. clash j i))
 
 time-over : (n : ℕ) (s : State) → s .wire .connection ≡ Selecting → interrupted s ≡ false → interrupted (step (time n) s .state) ≡ true
     → Over (units (time n)) s (step (time n) s .state)
@@ -82,7 +81,7 @@ comes : (l : List Call) (n w : ℕ) → isGood (time n) ≡ true → Waited step
     → eqb (run step l fresh .registers .setup .timeout) 0 ≡ false → run step l fresh .registers .setup .timeout ≤ w + n → Raises step l (time n) 0x42
 comes l n w g v x z o =
     let b : Because (time n) (run step l fresh) 0x42 =
-    times-out g (selecting-quiet l x) x z (le-leb (run step l fresh .registers .setup .timeout) (run step l fresh .wire .elapsed + n) (omega (arith, all-added v x z))) in
+    times-out g (selecting-goes l x) x z (le-leb (run step l fresh .registers .setup .timeout) (run step l fresh .wire .elapsed + n) (omega (arith, all-added v x z))) in
     record {
       raises = raised-because .complete (time n) (run step l fresh) 0x42 b;
       code = raised-because .code (time n) (run step l fresh) 0x42 b;

@@ -15,8 +15,8 @@ use Rattle.chip.specs.Choice.{pick, both, either}
 use Rattle.chip.specs.Phases.{phaseOf}
 use Rattle.chip.specs.Lines.{codeOf}
 use Rattle.chip.specs.State.{fresh}
-use Rattle.chip.specs.Interrupts.{isInterrupt, isEnding, busy, unlessInterrupt, raise, outgoingDropped}
-use Rattle.chip.specs.Running.{isRunning}
+use Rattle.chip.specs.Interrupts.{busy, unlessInterrupt, raise, outgoingDropped}
+use Rattle.chip.specs.Activity.{goesOn}
 use Rattle.chip.specs.Commands.{aborted, disconnected, selecting, selectAndTransferBegun, transferInfoBegun, accepted, carriedOut, commanded, reset}
 use Rattle.chip.specs.Connections.{isConnected, isSelecting}
 use Rattle.chip.specs.Count.{loadedForTransferInfo}
@@ -28,19 +28,20 @@ use Rattle.chip.specs.declared.Phase.{Phase}
 use Rattle.chip.specs.declared.Reply.{Reply}
 use Rattle.chip.specs.declared.Fifo.{Fifo}
 use Rattle.chip.specs.declared.Noted.{Noted}
-use Rattle.chip.specs.declared.Pending.{Pending}
-use Rattle.chip.specs.declared.Pending.the-variants.{Nothing}
-use Rattle.chip.specs.declared.Running.{Running}
+use Rattle.chip.specs.declared.Activity.{Activity}
+use Rattle.chip.specs.declared.Command.{Command}
 use Rattle.chip.specs.declared.Direction.{Direction}
 use Rattle.chip.specs.declared.Connection.{Connection}
 use Rattle.chip.specs.declared.Connection.the-variants.{Disconnected, Selecting}
 use Rattle.chip.proofs.Cases.{by-pick, by-case, by-test, both-first, both-second}
-use Rattle.reached.specs.Sound as S
-use Rattle.reached.specs.Sound.{six, seven, eight, nine, Shape, idle, selects, waits, selectsAndTransfers, transfersInfo, ending, readOut, apart, joined}
-use Rattle.unread.specs.Status.{isCommandOf, isCommand, isSelectCode, isSelection, isAnswer}
+use Rattle.reached.specs.Sound.{Shape, idle, selects, waits, selectsAndTransfers, transfersInfo, ending, readOut, apart, joined}
+use Rattle.unread.specs.Status.{pendingIn, isCommandOf, isCommand, isSelectCode, isSelection, isAnswer}
 use Rattle.unread.specs.Because.{Quiet}
 use Rattle.unread.specs.Codes.{Selects}
 use Rattle.unread.proofs.Choosing.{clash}
+use Rattle.unread.proofs.Pendings.{isEnd, going-quiet}
+use Rattle.unread.proofs.Rows.{selecting-now}
+use Rattle.chip.proofs.Activities.{going-runs}
 use Rattle.unread.proofs.Told.{Issued, issued}
 use Rattle.unread.proofs.Host.{Pops, nothing-read, one-read, ending-read, wait-read, pops, going, written-keeps, block-keeps, valid-apart}
 use Rattle.unread.proofs.Codes.{run-more, by-calls, since-end, selections-begun}
@@ -61,8 +62,8 @@ clock t = record { elapsed = t .wire .elapsed; timeout = t .registers .setup .ti
 pops-clock : {s t : State} → Quiet s → Pops s t → (clock t ≡ clock s) × Quiet t
 pops-clock q nothing-read = (refl, q)
 pops-clock q (one-read d w) = (refl, q)
-pops-clock q (ending-read d w e) = clash refl (ap isEnding (sym e ∙ q))
-pops-clock q (wait-read d w e) = clash refl (ap isEnding (sym e ∙ q))
+pops-clock q (ending-read d w e) = clash refl (ap isEnd (sym (ap pendingIn e) ∙ q))
+pops-clock q (wait-read d w e) = clash refl (ap isEnd (sym (ap pendingIn e) ∙ q))
 
 block-clock : (l : List ℕ) (s : State) → Quiet s → clock (R.blockRead l s .state) ≡ clock s
 unfolding R.blockRead
@@ -76,7 +77,14 @@ gone : {P : Type 0} {y : Connection} → y ≡ Selecting → isSelecting y ≡ f
 gone e n = clash (ap isSelecting e) n
 
 -- while a selection goes on, both stay
-module _ (s : State) (x : s .wire .connection ≡ Selecting) (q : Quiet s) (r : busy s ≡ true) where
+module _ (s : State) (x : s .wire .connection ≡ Selecting) (on : goesOn (s .activity) ≡ true) where
+  q : Quiet s
+  q = going-quiet s on
+
+  works : busy s ≡ true
+  unfolding busy
+  works = going-runs (s .activity) on
+
   abbrev Stays : State → Type 0
   Stays t = t .wire .connection ≡ Selecting → clock t ≡ clock s
 
@@ -101,7 +109,7 @@ module _ (s : State) (x : s .wire .connection ≡ Selecting) (q : Quiet s) (r : 
   unfolding R.writtenAt
   written-stays w b h =
       by-case So _ (λ a. commanded-stays b)
-      (λ m. by-case So _ (λ a e. written-keeps clock (λ x t. refl) b s) (λ n. unreachable s w (s .status .pointer) r h m n))
+      (λ m. by-case So _ (λ a e. written-keeps clock (λ x t. refl) b s) (λ n. unreachable s w (s .status .pointer) works h m n))
 
   read-stays : (a : ℕ) → So (R.readAt a s)
   unfolding R.readAt
@@ -166,26 +174,23 @@ timed-out : {P : Type 0} (s : State) → E.timedOut s .wire .connection ≡ Sele
 unfolding E.timedOut raise outgoingDropped
 timed-out s e = gone e refl
 
-selection-grows : (n : ℕ) (s : State) → Quiet s → Grows n s (E.selectionTime n s)
+selection-grows : (n : ℕ) (s : State) → Grows n s (E.selectionTime n s)
 unfolding E.selectionTime
-selection-grows n s q =
-    by-case (Grows n s) _ (λ i. clash i (ap isInterrupt q))
-    (λ i. by-case (Grows n s) _
+selection-grows n s =
+    by-case (Grows n s) _
     (λ z e. record { timeout = refl; most = at-most (s .wire .elapsed) n; least = λ m. clash z m })
     (λ z. by-pick (Grows n s) _ (timed-out s)
-    (λ e. record { timeout = refl; most = at-least (s .wire .elapsed + n); least = λ m. at-least (s .wire .elapsed + n) })))
+    (λ e. record { timeout = refl; most = at-least (s .wire .elapsed + n); least = λ m. at-least (s .wire .elapsed + n) }))
 
-passed-grows : (n : ℕ) (s : State) → s .wire .connection ≡ Selecting → Quiet s → Grows n s (E.passed n s)
+passed-grows : (n : ℕ) (s : State) → s .wire .connection ≡ Selecting → goesOn (s .activity) ≡ true → Grows n s (E.passed n s)
 unfolding E.passed
-passed-grows n s x q =
-    by-case (Grows n s) _ (λ f. clash f (ap isEnding q))
-    (λ f. by-case (Grows n s) _ (λ y. selection-grows n s q) (λ y. clash (ap isSelecting x) y))
+passed-grows n s x on = by-case (Grows n s) _ (λ y. selection-grows n s) (λ y. clash (selecting-now s on x) y)
 
-time-grows : (n : ℕ) (s : State) → s .wire .connection ≡ Selecting → Quiet s → step (time n) s .state .wire .connection ≡ Selecting
+time-grows : (n : ℕ) (s : State) → s .wire .connection ≡ Selecting → goesOn (s .activity) ≡ true → step (time n) s .state .wire .connection ≡ Selecting
     → Ticks (units (time n)) s (step (time n) s .state)
 unfolding step carried pick
-time-grows n s x q =
-    by-test (isGood (time n)) (λ g. rw g (passed-grows n s x q))
+time-grows n s x on =
+    by-test (isGood (time n)) (λ g. rw g (passed-grows n s x on))
     (λ g. rw g (λ e. record { timeout = refl; most = omega arith; least = λ m. omega arith }))
 
 of-clock : {s t : State} → clock t ≡ clock s → Ticks 0 s t
@@ -194,17 +199,17 @@ of-clock e =
     record { timeout = ap (λ (c : Clock). c .timeout) e; most = omega (arith, k); least = λ m. omega (arith, k) }
 
 -- one call of a selection that goes on
-elapsed-grows : (c : Call) (s : State) → s .wire .connection ≡ Selecting → Quiet s → busy s ≡ true → isAnswer c ≡ false
+elapsed-grows : (c : Call) (s : State) → s .wire .connection ≡ Selecting → goesOn (s .activity) ≡ true → isAnswer c ≡ false
     → step c s .state .wire .connection ≡ Selecting → Ticks (units c) s (step c s .state)
-elapsed-grows (pointer m b) s x q r a e = of-clock (call-stays s x q r (pointer m b) refl a e)
-elapsed-grows auxiliary s x q r a e = of-clock (call-stays s x q r auxiliary refl a e)
-elapsed-grows (register m b) s x q r a e = of-clock (call-stays s x q r (register m b) refl a e)
-elapsed-grows (block m l) s x q r a e = of-clock (call-stays s x q r (block m l) refl a e)
-elapsed-grows (time n) s x q r a e = time-grows n s x q e
-elapsed-grows answer s x q r a e = clash refl a
-elapsed-grows (reselection lines) s x q r a e = of-clock (call-stays s x q r (reselection lines) refl a e)
-elapsed-grows (request p b z) s x q r a e = of-clock (call-stays s x q r (request p b z) refl a e)
-elapsed-grows free s x q r a e = of-clock (call-stays s x q r free refl a e)
+elapsed-grows (pointer m b) s x on a e = of-clock (call-stays s x on (pointer m b) refl a e)
+elapsed-grows auxiliary s x on a e = of-clock (call-stays s x on auxiliary refl a e)
+elapsed-grows (register m b) s x on a e = of-clock (call-stays s x on (register m b) refl a e)
+elapsed-grows (block m l) s x on a e = of-clock (call-stays s x on (block m l) refl a e)
+elapsed-grows (time n) s x on a e = time-grows n s x on e
+elapsed-grows answer s x on a e = clash refl a
+elapsed-grows (reselection lines) s x on a e = of-clock (call-stays s x on (reselection lines) refl a e)
+elapsed-grows (request p b z) s x on a e = of-clock (call-stays s x on (request p b z) refl a e)
+elapsed-grows free s x on a e = of-clock (call-stays s x on free refl a e)
 
 -- a command that finds the controller Disconnected and leaves it selecting starts at 0
 module _ (s : State) (x : s .wire .connection ≡ Disconnected) where
@@ -214,7 +219,7 @@ module _ (s : State) (x : s .wire .connection ≡ Disconnected) where
   not-so : {P : Type 0} → s .wire .connection ≡ Selecting → P
   not-so e = gone e (ap isSelecting x)
 
-  transferring-zero : (r : Running) (b : ℕ) → Zero (selectAndTransferBegun r (accepted b s))
+  transferring-zero : (r : Command) (b : ℕ) → Zero (selectAndTransferBegun r (accepted b s))
   unfolding selectAndTransferBegun selecting accepted
   transferring-zero r b = by-case Zero _ (λ y. clash y (ap isConnected x)) (λ y e. refl)
 
@@ -263,18 +268,12 @@ selection-command free s e = clash e refl
 begins-at-zero : (c : Call) (s : State) → Selects step c s → step c s .state .wire .elapsed ≡ 0
 begins-at-zero c s h = let k = selection-command c s (h .command) in command-zero s (h .apart) (k .0) c (k .1) (h .selecting)
 
--- a reached state that selects has nothing pending, and its command runs
-select-runs : {r : Running} → S.Selects r → isRunning r ≡ true
-select-runs six = refl
-select-runs seven = refl
-select-runs eight = refl
-select-runs nine = refl
-
-at-work : {single : Bool} {n : ℕ} {p : Pending} {r : Running} {c : Connection} {d : Direction} {f : Fifo} {atn ack : Bool} {w : Noted}
-    → isSelecting c ≡ true → Shape single n p r c d f atn ack w → (p ≡ Nothing) × (isRunning r ≡ true)
+-- a reached state that selects does so by a command that goes on
+at-work : {single : Bool} {n : ℕ} {x : Activity} {c : Connection} {d : Direction} {f : Fifo} {atn ack : Bool} {w : Noted}
+    → isSelecting c ≡ true → Shape single n x c d f atn ack w → goesOn x ≡ true
 at-work e (idle a b c apart) = clash e refl
 at-work e (idle a b c joined) = clash e refl
-at-work e (selects a b c) = (refl, select-runs a)
+at-work e (selects a b c) = refl
 at-work e (waits a b) = clash e refl
 at-work e (selectsAndTransfers a b) = clash e refl
 at-work e (transfersInfo a b) = clash e refl
@@ -282,21 +281,17 @@ at-work e (ending a b apart) = clash e refl
 at-work e (ending a b joined) = clash e refl
 at-work e (readOut a b) = clash e refl
 
-pub selecting-quiet : (l : List Call) → run step l fresh .wire .connection ≡ Selecting → Quiet (run step l fresh)
-selecting-quiet l y = at-work (ap isSelecting y) (reached l .shape) .0
+pub selecting-goes : (l : List Call) → run step l fresh .wire .connection ≡ Selecting → goesOn (run step l fresh .activity) ≡ true
+selecting-goes l y = at-work (ap isSelecting y) (reached l .shape)
 
 -- one more call of a selection that goes on
 module _ (l : List Call) (c : Call) (y : run step l fresh .wire .connection ≡ Selecting) (a : isAnswer c ≡ false)
     (e : run step (l ++ (c ∷ [])) fresh .wire .connection ≡ Selecting) where
-  works : busy (run step l fresh) ≡ true
-  unfolding busy either
-  works = rw (at-work (ap isSelecting y) (reached l .shape) .1)
-
   one-more-ticks : Ticks (units c) (run step l fresh) (run step (l ++ (c ∷ [])) fresh)
   one-more-ticks =
       let r : run step (l ++ (c ∷ [])) fresh ≡ step c (run step l fresh) .state = run-more step l c fresh in
       let x : step c (run step l fresh) .state .wire .connection ≡ Selecting = sym (ap (λ (t : State). t .wire .connection) r) ∙ e in
-      subst (λ (t : State). Ticks (units c) (run step l fresh) t) (sym r) (elapsed-grows c (run step l fresh) y (selecting-quiet l y) works a x)
+      subst (λ (t : State). Ticks (units c) (run step l fresh) t) (sym r) (elapsed-grows c (run step l fresh) y (selecting-goes l y) a x)
 
 pub data HasWaited (l : List Call) : Type 0 where
   waits-for : (n : ℕ) → Waited step n l → run step l fresh .wire .elapsed ≤ n → HasWaited l

@@ -15,12 +15,12 @@ use Rattle.chip.specs.Choice.{either}
 use Rattle.chip.specs.Lines.{packed}
 use Rattle.chip.specs.State.{fresh, setPointer}
 use Rattle.chip.specs.Interrupts.{interrupted, inEnding, busy}
+use Rattle.chip.specs.Activity.{runningNumber}
 use Rattle.chip.specs.Count.{dbr}
 use Rattle.chip.specs.Calls.{Call, Outcome, pointer, auxiliary, register, isByte, run}
 use Rattle.chip.specs.declared.State.{State}
 use Rattle.chip.specs.declared.Answer.the-variants.{Done, Blind}
-use Rattle.chip.specs.declared.Pending.the-variants.{Ending}
-use Rattle.unread.specs.Status.{isReset, readsAt}
+use Rattle.unread.specs.Status.{Ending, pending, isReset, readsAt}
 use Rattle.unread.specs.Because.{Because, Begins}
 use Rattle.unread.specs.Codes.{Since}
 use Rattle.unread.specs.Ending.{isEvent, Untouched}
@@ -36,7 +36,12 @@ pub data Causes (c : Call) (s : State) (k : ℕ) : Type 0 where
 
 pub data Owes (k : ℕ) (s : State) : Type 0 where
   unread : interrupted s ≡ true → s .status .code ≡ k → Owes k s
-  coming : s .status .pending ≡ Ending k → Owes k s
+  coming : pending s ≡ Ending k → Owes k s
+
+-- the command that runs, if one does, the way of its data and the mark of a single byte
+pub record SameCommand (s t : State) : Type 0 where
+  pub running : runningNumber (t .activity) ≡ runningNumber (s .activity)
+  pub transfer : t .transfer ≡ s .transfer
 
 pub record Undisturbed (f : Call → State → Outcome) (k : ℕ) (c : Call) (s : State) : Type 0 where
   pub owed : Owes k s
@@ -46,12 +51,12 @@ pub record Undisturbed (f : Call → State → Outcome) (k : ℕ) (c : Call) (s 
   pub placed : f c s .state .wire .connection ≡ s .wire .connection
   -- .. and, once the code is raised, nothing on the bus and no command
   pub bus : interrupted s ≡ true → f c s .state .wire ≡ s .wire
-  pub command : interrupted s ≡ true → f c s .state .transfer ≡ s .transfer
+  pub command : interrupted s ≡ true → SameCommand s (f c s .state)
 
 pub record Gives (f : Call → State → Outcome) (k : ℕ) (c : Call) (s : State) : Type 0 where
   pub code : f c s .answer ≡ Done k
   pub bus : f c s .state .wire ≡ s .wire
-  pub command : f c s .state .transfer ≡ s .transfer
+  pub command : SameCommand s (f c s .state)
 
 pub record StatusBelongs (f : Call → State → Outcome) : Type 0 where
   -- a driver sees INT, and the other flags, in auxiliary status as they are

@@ -3,7 +3,7 @@
 --   intrudes   with a status unread a Reselection is Done and connects, and raises nothing
 --   swallows   with a status unread a Free is Done, and nothing happens: the board takes the bus for free
 --   ticks      with a status unread time adds up
---   eager      with a status unread a Select is taken
+--   startles   the read of a status gives it and leaves a command running
 --   hangsUp    the read of a status gives it and disconnects
 --   hides      auxiliary status shows 0 while a status is unread
 --   misleads   the pointer set to 17h goes to 16h
@@ -15,21 +15,22 @@
 --   barges     a Reselection while connected is Done, and rewrites 16h: one disk takes the place of another
 --   hollow     an Answer to 06 or 07 raises 11h, and the controller is Disconnected
 --   sticky     a Free, connected and idle, raises 85h, and the controller stays connected
--- `drops` of room unread, a Time that forgets an ending with its code, is refuted here too.
+-- `drops` of room unread, a Time that forgets an ending with its code, is refuted here too, and `eager`, a Select taken over an unread status.
 use mathlib.Core.Bool.{Bool, not}
 use Prim.Native.Nat.{ℕ, _+_}
 use lib.Dec.{eqb}
 use Rattle.chip.specs.Choice.{pick, both}
-use Rattle.chip.specs.State.{setSource, setPointer, setConnection, setElapsed}
+use Rattle.chip.specs.State.{setSource, setPointer, setActivity, setConnection, setElapsed}
 use Rattle.chip.specs.Interrupts.{interrupted, busy, raise}
-use Rattle.chip.specs.Running.{isRunning}
+use Rattle.chip.specs.Activity.{isRunning}
 use Rattle.chip.specs.Commands.{selecting}
 use Rattle.chip.specs.Connections.{isConnected, isDisconnected}
 use Rattle.chip.specs.Calls.{Call, Outcome, kind, step}
 use Rattle.chip.specs.declared.State.{State}
 use Rattle.chip.specs.declared.Answer.the-variants.{Done}
 use Rattle.chip.specs.declared.Connection.the-variants.{Disconnected, Connected}
-use Rattle.chip.specs.declared.Running.the-variants.{SelectWithAtn}
+use Rattle.chip.specs.declared.Activity.the-variants.{Runs}
+use Rattle.chip.specs.declared.Command.the-variants.{SelectWithAtn, TransferInfo}
 use Rattle.reached.specs.Facts.{isSelect}
 use Rattle.reached.specs.Wrong.{afterwards}
 use Rattle.unread.specs.Status.{isSelection, readsAt}
@@ -57,12 +58,15 @@ unfoldable pub ticks : Call → State → Outcome
 unfolding instead
 ticks = instead (overUnread 4) (λ s. setElapsed (s .wire .elapsed + 1) s)
 
-unfoldable pub eager : Call → State → Outcome
-unfolding instead
-eager = instead (λ c s. both (isSelection c s) (interrupted s)) (selecting SelectWithAtn)
+-- a register read that clears INT
+abbrev hasRead : State → State → Bool
+hasRead s t = both (interrupted s) (not (interrupted t))
+
+unfoldable pub startles : Call → State → Outcome
+startles = afterwards 2 (λ s t. pick (hasRead s t) (setActivity (Runs TransferInfo) t) t)
 
 unfoldable pub hangsUp : Call → State → Outcome
-hangsUp = afterwards 2 (λ s t. pick (both (interrupted s) (not (interrupted t))) (setConnection Disconnected t) t)
+hangsUp = afterwards 2 (λ s t. pick (hasRead s t) (setConnection Disconnected t) t)
 
 unfoldable pub hides : Call → State → Outcome
 unfolding instead
@@ -87,20 +91,20 @@ impatient c s =
 unfoldable pub poaches : Call → State → Outcome
 unfolding instead
 poaches =
-    instead (λ c s. both (isSelection c s) (both (isConnected (s .wire .connection)) (isRunning (s .transfer .running))))
+    instead (λ c s. both (isSelection c s) (both (isConnected (s .wire .connection)) (isRunning (s .activity))))
     (selecting SelectWithAtn)
 
 unfoldable pub hollow : Call → State → Outcome
 unfolding instead
 hollow =
-    instead (λ c s. both (eqb (kind c) 5) (isSelect (s .transfer .running))) (λ s. raise 0x11 (setConnection Disconnected s))
+    instead (λ c s. both (eqb (kind c) 5) (isSelect (s .activity))) (λ s. raise 0x11 (setConnection Disconnected s))
 
 unfoldable pub sticky : Call → State → Outcome
 unfolding instead
 sticky =
     instead
     (λ c s. both (eqb (kind c) 8)
-    (both (isConnected (s .wire .connection)) (both (not (isRunning (s .transfer .running))) (not (interrupted s)))))
+    (both (isConnected (s .wire .connection)) (both (not (isRunning (s .activity))) (not (interrupted s)))))
     (raise 0x85)
 
 unfoldable pub unblinds : Call → State → Outcome

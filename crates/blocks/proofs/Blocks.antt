@@ -21,8 +21,8 @@ use Rattle.chip.specs.declared.State.{State}
 use Rattle.chip.specs.declared.Answer.the-variants.{NoDataNow}
 use Rattle.chip.specs.declared.Direction.{Direction}
 use Rattle.chip.specs.declared.Direction.the-variants.{Unfixed, In, Out}
-use Rattle.chip.specs.declared.Pending.{Pending}
-use Rattle.chip.specs.declared.Pending.the-variants.{Nothing, Interrupt, Ending, ReadOut}
+use Rattle.chip.specs.declared.Activity.{Activity}
+use Rattle.chip.specs.declared.Activity.the-variants.{Idle, Interrupt, Runs, Ends, ReadOut}
 use Rattle.blocks.specs.Blocks.{readBy, writtenBy}
 use Rattle.fifo.specs.Bulk.{Bulk, drained, takes, filled}
 use Rattle.chip.proofs.Cases.{by-test}
@@ -56,7 +56,7 @@ settled-waiting : (s : State) → isEmpty (s .fifo) ≡ false → settled s ≡ 
 unfolding settled pick
 settled-waiting s e = rw e
 
-settled-empty : (s : State) → isEmpty (s .fifo) ≡ true → settled s ≡ settledBy (s .status .pending) s
+settled-empty : (s : State) → isEmpty (s .fifo) ≡ true → settled s ≡ settledBy (s .activity) s
 unfolding settled pick
 settled-empty s e = rw e
 
@@ -64,12 +64,13 @@ settled-empty s e = rw e
 abbrev Kept : State → State → Type 0
 Kept s t = (t .transfer .direction ≡ In) × (t .fifo ≡ s .fifo)
 
-settledBy-in : (p : Pending) (s : State) → s .transfer .direction ≡ In → Kept s (settledBy p s)
+settledBy-in : (a : Activity) (s : State) → s .transfer .direction ≡ In → Kept s (settledBy a s)
 unfolding settledBy raise outgoingDropped
-settledBy-in Nothing s d = (d, refl)
+settledBy-in Idle s d = (d, refl)
 settledBy-in Interrupt s d = (d, refl)
-settledBy-in (Ending c) s d = rw d (refl, refl)
-settledBy-in ReadOut s d = (d, refl)
+settledBy-in (Runs r) s d = (d, refl)
+settledBy-in (Ends r k) s d = rw d (refl, refl)
+settledBy-in (ReadOut r) s d = (d, refl)
 
 -- the run r, after which an ending settles
 abbrev readOut : Bulk → State → Moved
@@ -79,7 +80,7 @@ readOut r s = record { number = r .moved; state = settled (setFifo (r .fifo) s);
 last-read : (l : List ℕ) (s : State) → s .transfer .direction ≡ In → isEmpty (s .fifo) ≡ true
     → blockRead l (settled s) ≡ readOut (drained l (s .fifo)) s
 last-read l s d e =
-    let k : Kept s (settled s) = rw (settled-empty s e) (settledBy-in (s .status .pending) s d) in
+    let k : Kept s (settled s) = rw (settled-empty s e) (settledBy-in (s .activity) s d) in
     empty-read l (settled s) (k .0) (ap isEmpty (k .1) ∙ e) ∙ rw (drained-none l (s .fifo) e)
 
 waiting-read : (l : List ℕ) (s : State) → s .transfer .direction ≡ In → isEmpty (s .fifo) ≡ false

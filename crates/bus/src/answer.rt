@@ -2,13 +2,13 @@
 ghost use mathlib.Core.Path.{_≡_};
 ghost use Rattle.chip.specs.Choice.{either};
 ghost use Rattle.chip.specs.Events.{answered, answeredSelecting, answeredState, connected};
+use crate::time;
 use chip::Connection;
 use chip::Noted;
 use chip::Reply;
 use chip::Seen;
 use chip::State;
-use state::connections;
-use state::running;
+use state::activity;
 use state::set;
 
 pub fn connected(s: State) -> State
@@ -33,22 +33,16 @@ fn atn_with(sets: bool, atn: bool) -> bool
 fn answered_state(s: State) -> State
     ensures { λ r. ⌜ r ≡ answeredState s ⌝ }
 {
-    let atn = atn_with(running::sets_atn(s), s.wire.handshake.atn);
+    let atn = atn_with(activity::sets_atn(s), s.wire.handshake.atn);
     connected(set::atn(s, atn))
 }
 
 fn answered_selecting(s: State) -> Reply
     ensures { λ r. ⌜ r ≡ answeredSelecting s ⌝ }
 {
-    if interrupts::in_ending(s) {
-        return answers::held(s);
-    }
     let t = answered_state(s);
-    if running::is_select_and_transfer(s) {
+    if activity::is_select_and_transfer(s) {
         return answers::done(0, set::phase(t, 0x10));
-    }
-    if interrupts::interrupted(s) {
-        return answers::held(s);
     }
     answers::done(0, interrupts::raise(0x11, t))
 }
@@ -56,7 +50,7 @@ fn answered_selecting(s: State) -> Reply
 pub fn answered(s: State) -> Reply
     ensures { λ r. ⌜ r ≡ answered s ⌝ }
 {
-    if connections::is_selecting(s) {
+    if time::selects(s) {
         return answered_selecting(s);
     }
     answers::out_of_place(s)

@@ -4,8 +4,8 @@ ghost use Rattle.chip.specs.Events.{busFree, freed, freedRunning, idleFree};
 use chip::Connection;
 use chip::Reply;
 use chip::State;
+use state::activity;
 use state::connections;
-use state::running;
 use state::set;
 
 fn bus_free(s: State) -> State
@@ -29,10 +29,10 @@ fn idle_free(s: State) -> Reply
 fn freed_running(s: State) -> Reply
     ensures { λ r. ⌜ r ≡ freedRunning s ⌝ }
 {
-    if running::is_select_and_transfer(s) {
+    if activity::is_select_and_transfer(s) {
         return select_and_transfer::free::freed(s, bus_free(s));
     }
-    if running::is_transfer_info(s) {
+    if activity::is_transfer_info(s) {
         return transfer_info::free(s, bus_free(s));
     }
     idle_free(s)

@@ -9,8 +9,8 @@ use chip::Noted;
 use chip::Phase;
 use chip::Reply;
 use chip::State;
+use state::activity;
 use state::connections;
-use state::running;
 use state::set;
 
 fn idle_request(p: Phase, s: State) -> Reply
@@ -28,10 +28,10 @@ fn idle_request(p: Phase, s: State) -> Reply
 fn requested_running(p: Phase, b: u8, bad: bool, s: State) -> Reply
     ensures { λ r. ⌜ r ≡ requestedRunning p b bad s ⌝ }
 {
-    if running::is_select_and_transfer(s) {
+    if activity::is_select_and_transfer(s) {
         return select_and_transfer::request(p, b, bad, s);
     }
-    if running::is_transfer_info(s) {
+    if activity::is_transfer_info(s) {
         return transfer_info::request(p, b, bad, s);
     }
     idle_request(p, s)
@@ -54,13 +54,13 @@ pub fn is_served(s: State) -> bool
     ensures { λ r. ⌜ r ≡ isServed s ⌝ }
 {
     if connections::is_connected(s) {
-        if interrupts::in_ending(s) {
-            return false;
+        if activity::goes_on(s) {
+            if s.wire.handshake.ack {
+                return false;
+            }
+            return true;
         }
-        if s.wire.handshake.ack {
-            return false;
-        }
-        return true;
+        return false;
     }
     false
 }

@@ -6,9 +6,9 @@ ghost use Rattle.chip.specs.Events.{namesTarget, reselected, reselectedApart, r
 use crate::answer;
 use chip::Reply;
 use chip::State;
+use state::activity;
 use state::connections;
 use state::get;
-use state::running;
 use state::set;
 
 fn reselected_state(data_lines: u8, s: State) -> State
@@ -29,7 +29,7 @@ fn reselected_with_code(data_lines: u8, s: State) -> Reply
 fn names_target(data_lines: u8, s: State) -> bool
     ensures { λ r. ⌜ r ≡ namesTarget data_lines s ⌝ }
 {
-    if running::is_select_and_transfer(s) {
+    if activity::is_select_and_transfer(s) {
         if lines::are_two(data_lines) {
             let other = lines::other_identity(get::identity(s), data_lines);
             return lines::same_identity(other, lines::destination(s));

@@ -1,9 +1,10 @@
 // Time: units add up while selecting, to the timeout.
 ghost use mathlib.Core.Path.{_≡_};
-ghost use Rattle.chip.specs.Events.{passed, selectionTime, timedOut};
+ghost use Rattle.chip.specs.Events.{passed, selectionTime, selects, timedOut};
 use chip::Connection;
 use chip::Reply;
 use chip::State;
+use state::activity;
 use state::connections;
 use state::set;
 
@@ -16,9 +17,6 @@ fn timed_out(s: State) -> State
 fn selection_time(n: u8, s: State) -> Reply
     ensures { λ r. ⌜ r ≡ selectionTime n s ⌝ }
 {
-    if interrupts::interrupted(s) {
-        return answers::held(s);
-    }
     let timeout = s.registers.setup.timeout;
     if timeout == 0 {
         return answers::done(0, s);
@@ -30,13 +28,20 @@ fn selection_time(n: u8, s: State) -> Reply
     answers::done(0, set::elapsed(s, sum as u8))
 }
 
+// A selection runs.
+pub fn selects(s: State) -> bool
+    ensures { λ r. ⌜ r ≡ selects s ⌝ }
+{
+    if connections::is_selecting(s) {
+        return activity::goes_on(s);
+    }
+    false
+}
+
 pub fn passed(n: u8, s: State) -> Reply
     ensures { λ r. ⌜ r ≡ passed n s ⌝ }
 {
-    if interrupts::in_ending(s) {
-        return answers::done(0, s);
-    }
-    if connections::is_selecting(s) {
+    if selects(s) {
         return selection_time(n, s);
     }
     answers::done(0, s)

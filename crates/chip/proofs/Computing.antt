@@ -40,7 +40,7 @@ unfolding Choice.pick Choice.both Choice.either Phases.phaseOf Lines.isOn Lines.
     Registers.pointerAfter Registers.isBlind Registers.registerAt Registers.highWritten Registers.middleWritten
     Registers.lowWritten Registers.storedIn Registers.stored Registers.dataRead Registers.dataWritten Registers.readAt
     Registers.writtenAt Registers.stepped Registers.accessedAt Registers.accessed Registers.blockRead
-    Registers.blockWritten Events.timedOut Events.selectionTime Events.passed Events.connected
+    Registers.blockWritten Events.timedOut Events.selectionTime Events.selects Events.passed Events.connected
     Events.answeredState Events.answeredSelecting Events.answered Events.reselectedState Events.reselectedWithCode
     Events.namesTarget Events.reselectedApart Events.reselected Events.idleRequest Events.requestedRunning Events.requestedConnected Events.isServed
     Events.remembered Events.requested Events.busFree Events.idleFree Events.freedRunning Events.freed Calls.isGood Calls.carried

@@ -1,31 +1,27 @@
 -- The bytes that stand for cases, there and back.
 -- `..-form`: from a case to its byte and back, and the byte's range. `..-kept`: from a byte in range to its case and back.
--- `ending-due`: an ending's code stands beside an ending alone. `phase-below`: a phase's number is below 8.
+-- `phase-below`: a phase's number is below 8. Of an activity's three bytes: ImageActivity.antt.
 -- `count-back`, `high-kept`, `middle-kept`, `low-kept`: the three bytes of a count.
-use mathlib.Core.Path.{_≡_, refl, sym}
+use mathlib.Core.Path.{_≡_, refl}
 use mathlib.Core.Bool.{Bool, true, false}
-use Prim.Native.Nat.{ℕ, zero, suc, _+_, _*_, _/_, _%_, _<_}
+use Prim.Native.Nat.{ℕ, _+_, _*_, _/_, _%_, _<_}
 use native.Mathlib.Omega.{arith}
 use lib.Dec.{eqb, ltb}
-use borrow.Author.Tests.{eqb-true, ltb-true}
+use borrow.Author.Tests.{ltb-true}
 use Rattle.chip.specs.declared.Connection.{Connection}
-use Rattle.chip.specs.declared.Running.{Running}
 use Rattle.chip.specs.declared.Direction.{Direction}
 use Rattle.chip.specs.declared.Direction.the-variants.{Unfixed, In, Out}
-use Rattle.chip.specs.declared.Pending.{Pending}
-use Rattle.chip.specs.declared.Pending.the-variants.{Nothing, Interrupt, Ending, ReadOut}
 use Rattle.chip.specs.declared.Noted.{Noted}
 use Rattle.chip.specs.declared.Noted.the-variants.{NoPhase, Was}
 use Rattle.chip.specs.declared.Phase.{Phase}
 use Rattle.chip.specs.declared.Phase.the-variants.{DataOut, DataIn, CommandOut, StatusIn, UnspecifiedOut, UnspecifiedIn, MessageOut, MessageIn}
-use Rattle.chip.specs.Choice.{pick, both, either}
+use Rattle.chip.specs.Choice.{pick, both}
 use Rattle.chip.specs.Lines.{bit}
 use Rattle.chip.specs.Phases.{phaseNumber, phaseOf}
-use Rattle.chip.specs.Image.{directionByte, directionOf, pendingByte, endingByte, pendingOf, notedByte, notedOf}
+use Rattle.chip.specs.Image.{directionByte, directionOf, notedByte, notedOf}
 use Rattle.chip.specs.Connections.{connectionNumber, connectionCount, connectionOf}
-use Rattle.chip.specs.Running.{runningNumber, runningCount, runningOf}
 use Rattle.chip.proofs.ImageTests.{kept-below}
-use Rattle.chip.proofs.Numbers.{connection-of-number, connection-below, running-of-number, running-below}
+use Rattle.chip.proofs.Numbers.{connection-of-number, connection-below}
 
 pub bit-form : (b : Bool) → (eqb (bit b) 1 ≡ b) × (ltb (bit b) 2 ≡ true)
 bit-form true = (refl, refl)
@@ -34,28 +30,11 @@ bit-form false = (refl, refl)
 pub connection-form : (x : Connection) → (connectionOf (connectionNumber x) ≡ x) × (ltb (connectionNumber x) connectionCount ≡ true)
 connection-form x = (connection-of-number x, connection-below x)
 
-pub running-form : (r : Running) → (runningOf (runningNumber r) ≡ r) × (ltb (runningNumber r) runningCount ≡ true)
-running-form r = (running-of-number r, running-below r)
-
 pub direction-form : (d : Direction) → (directionOf (directionByte d) ≡ d) × (ltb (directionByte d) 3 ≡ true)
 unfolding directionOf pick
 direction-form Unfixed = (refl, refl)
 direction-form In = (refl, refl)
 direction-form Out = (refl, refl)
-
-pub pending-form : (p : Pending) → (pendingOf (pendingByte p) (endingByte p) ≡ p) × (ltb (pendingByte p) 4 ≡ true)
-unfolding pendingOf pick
-pending-form Nothing = (refl, refl)
-pending-form Interrupt = (refl, refl)
-pending-form (Ending c) = (refl, refl)
-pending-form ReadOut = (refl, refl)
-
-pub ending-due : (p : Pending) → either (eqb (pendingByte p) 2) (eqb (endingByte p) 0) ≡ true
-unfolding either
-ending-due Nothing = refl
-ending-due Interrupt = refl
-ending-due (Ending c) = refl
-ending-due ReadOut = refl
 
 pub noted-form : (p : Noted) → (notedOf (notedByte p) ≡ p) × (ltb (notedByte p) 9 ≡ true)
 unfolding notedOf phaseOf pick
@@ -80,25 +59,9 @@ pub connection-kept : (n : ℕ) → n < connectionCount → connectionNumber (co
 unfolding connectionOf pick both
 connection-kept = kept-below (λ n. connectionNumber (connectionOf n)) connectionCount refl
 
-pub running-kept : (n : ℕ) → n < runningCount → runningNumber (runningOf n) ≡ n
-unfolding runningOf pick both
-running-kept = kept-below (λ n. runningNumber (runningOf n)) runningCount refl
-
 pub direction-kept : (x : ℕ) → x < 3 → directionByte (directionOf x) ≡ x
 unfolding directionOf pick both
 direction-kept = kept-below (λ x. directionByte (directionOf x)) 3 refl
-
-pub pending-kept : (c x : ℕ) → x < 4 → pendingByte (pendingOf x c) ≡ x
-unfolding pendingOf pick both
-pending-kept c = kept-below (λ x. pendingByte (pendingOf x c)) 4 refl
-
-pub ending-kept : (c x : ℕ) → x < 4 → either (eqb x 2) (eqb c 0) ≡ true → endingByte (pendingOf x c) ≡ c
-unfolding pendingOf pick either
-ending-kept c zero h e = sym (eqb-true c 0 e)
-ending-kept c (suc zero) h e = sym (eqb-true c 0 e)
-ending-kept c (suc (suc zero)) h e = refl
-ending-kept c (suc (suc (suc zero))) h e = sym (eqb-true c 0 e)
-ending-kept c (suc (suc (suc (suc x)))) h e = absurd (omega arith)
 
 pub noted-kept : (x : ℕ) → x < 9 → notedByte (notedOf x) ≡ x
 unfolding notedOf phaseOf pick both

@@ -17,17 +17,18 @@ use Rattle.chip.specs.Image.{headBytes, middleBytes, imageOf, stateOf, i
 use Rattle.chip.specs.Ok.{Ok, Bytes}
 use Rattle.chip.proofs.ImageLists.{spelled, spelled-is, seam}
 use Rattle.chip.proofs.ImagePlaces.{image-length, cdb-whole, spread}
-use Rattle.chip.proofs.ImageForms.{bit-form, connection-form, running-form, direction-form, pending-form, ending-due, noted-form, bit-kept, connection-kept, running-kept, direction-kept, pending-kept, ending-kept, noted-kept, count-back, high-kept, middle-kept, low-kept}
+use Rattle.chip.proofs.ImageForms.{bit-form, connection-form, direction-form, noted-form, bit-kept, connection-kept, direction-kept, noted-kept, count-back, high-kept, middle-kept, low-kept}
+use Rattle.chip.proofs.ImageActivity.{activity-form, activity-valid, pending-kept, code-kept, running-kept}
 use Rattle.chip.proofs.ImageValid.{valid}
 use Rattle.chip.specs.Fifo.{fifoBytes, fifoOf}
 use Rattle.chip.proofs.FifoLaws.{fifo-back, fifo-valid, bytes-back, fifo-ok, keeps-bytes}
 
 -- a state by its parts
-by-parts : (t s : State) → t .registers ≡ s .registers → t .status ≡ s .status → t .fifo ≡ s .fifo → t .transfer ≡ s .transfer
-    → t .wire ≡ s .wire → t ≡ s
-by-parts t s a b c d e =
-    let p : record { registers = t .registers; status = t .status; fifo = t .fifo; transfer = t .transfer; wire = t .wire } ≡ s =
-    rw (a, b, c, d, e) in
+by-parts : (t s : State) → t .registers ≡ s .registers → t .status ≡ s .status → t .activity ≡ s .activity → t .fifo ≡ s .fifo
+    → t .transfer ≡ s .transfer → t .wire ≡ s .wire → t ≡ s
+by-parts t s a b x c d e =
+    let p : record { registers = t .registers; status = t .status; activity = t .activity; fifo = t .fifo; transfer = t .transfer; wire = t .wire } ≡ s =
+    rw (a, b, x, c, d, e) in
     p
 
 module _ (s : State) (o : Ok s) where
@@ -39,7 +40,11 @@ module _ (s : State) (o : Ok s) where
   unfolding stateOf headBytes middleBytes
   status-back =
       let t = s .status in
-      rw (spread s o) (simp (bit-form (t .lci) .0, bit-form (t .pe) .0, pending-form (t .pending) .0))
+      rw (spread s o) (simp (bit-form (t .lci) .0, bit-form (t .pe) .0))
+
+  activity-back : stateOf (imageOf s) .activity ≡ s .activity
+  unfolding stateOf headBytes middleBytes
+  activity-back = rw (spread s o) (activity-form (s .activity))
 
   fifo-part-back : stateOf (imageOf s) .fifo ≡ s .fifo
   unfolding stateOf headBytes middleBytes
@@ -49,7 +54,7 @@ module _ (s : State) (o : Ok s) where
   unfolding stateOf headBytes middleBytes
   transfer-back =
       let t = s .transfer in
-      rw (spread s o) (simp (running-form (t .running) .0, direction-form (t .direction) .0, bit-form (t .single) .0))
+      rw (spread s o) (simp (direction-form (t .direction) .0, bit-form (t .single) .0))
 
   wire-back : stateOf (imageOf s) .wire ≡ s .wire
   unfolding stateOf headBytes middleBytes
@@ -65,7 +70,7 @@ module _ (s : State) (o : Ok s) where
       ))
 
   pub state-image : stateOf (imageOf s) ≡ s
-  state-image = by-parts (stateOf (imageOf s)) s registers-back status-back fifo-part-back transfer-back wire-back
+  state-image = by-parts (stateOf (imageOf s)) s registers-back status-back activity-back fifo-part-back transfer-back wire-back
 
   pub image-valid : isImage (imageOf s) ≡ true
   unfolding isImage both headBytes middleBytes
@@ -74,10 +79,8 @@ module _ (s : State) (o : Ok s) where
       (simp (
         bit-form (s .status .lci) .1,
         bit-form (s .status .pe) .1,
-        pending-form (s .status .pending) .1,
-        ending-due (s .status .pending),
+        activity-valid (s .activity),
         connection-form (s .wire .connection) .1,
-        running-form (s .transfer .running) .1,
         direction-form (s .transfer .direction) .1,
         bit-form (s .transfer .single) .1,
         bit-form (s .wire .handshake .atn) .1,
@@ -99,10 +102,10 @@ module _ (l : List ℕ) (e : isImage l ≡ true) (b : Bytes l) where
         low-kept _ _ _ (b 18) (b 19) (b 20),
         bit-kept _ (v .b26),
         bit-kept _ (v .b27),
-        pending-kept (getD l 29 0) _ (v .b28),
-        ending-kept (getD l 29 0) _ (v .b28) (v .b29),
+        pending-kept _ _ _ (v .b28),
+        code-kept _ _ _ (v .b28),
+        running-kept _ _ _ (v .b28),
         connection-kept _ (v .b30),
-        running-kept _ (v .b31),
         direction-kept _ (v .b32),
         bit-kept _ (v .b33),
         bit-kept _ (v .b34),

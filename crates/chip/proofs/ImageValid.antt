@@ -7,10 +7,9 @@ use Prim.Native.Nat.{ℕ, _<_}
 use lib.Dec.{eqb, ltb}
 use lib.ListN.{length, getD, drop}
 use borrow.Author.Tests.{eqb-true, ltb-true}
-use Rattle.chip.specs.Choice.{either}
 use Rattle.chip.specs.Fifo.{isFifo}
 use Rattle.chip.specs.Connections.{connectionCount}
-use Rattle.chip.specs.Running.{runningCount}
+use Rattle.chip.specs.Activity.{isActivity}
 use Rattle.chip.specs.Image.{isImage, imageLength, fifoPlace}
 use Rattle.chip.proofs.Cases.{both-first, both-second}
 
@@ -22,10 +21,9 @@ pub record Valid (l : List ℕ) : Type 0 where
   pub long : length l ≡ imageLength
   pub b26 : getD l 26 0 < 2
   pub b27 : getD l 27 0 < 2
-  pub b28 : getD l 28 0 < 4
-  pub b29 : either (eqb (getD l 28 0) 2) (eqb (getD l 29 0) 0) ≡ true
+  -- with 29 and 31
+  pub b28 : isActivity (getD l 28 0) (getD l 29 0) (getD l 31 0) ≡ true
   pub b30 : getD l 30 0 < connectionCount
-  pub b31 : getD l 31 0 < runningCount
   pub b32 : getD l 32 0 < 3
   pub b33 : getD l 33 0 < 2
   pub b34 : getD l 34 0 < 2
@@ -41,10 +39,8 @@ valid l e =
     let e26 = both-second (eqb (length l) imageLength) _ e in
     let e27 = both-second (ltb (getD l 26 0) 2) _ e26 in
     let e28 = both-second (ltb (getD l 27 0) 2) _ e27 in
-    let e29 = both-second (ltb (getD l 28 0) 4) _ e28 in
-    let e30 = both-second (either (eqb (getD l 28 0) 2) (eqb (getD l 29 0) 0)) _ e29 in
-    let e31 = both-second (ltb (getD l 30 0) connectionCount) _ e30 in
-    let e32 = both-second (ltb (getD l 31 0) runningCount) _ e31 in
+    let e30 = both-second (isActivity (getD l 28 0) (getD l 29 0) (getD l 31 0)) _ e28 in
+    let e32 = both-second (ltb (getD l 30 0) connectionCount) _ e30 in
     let e33 = both-second (ltb (getD l 32 0) 3) _ e32 in
     let e34 = both-second (ltb (getD l 33 0) 2) _ e33 in
     let e35 = both-second (ltb (getD l 34 0) 2) _ e34 in
@@ -56,10 +52,8 @@ valid l e =
       long = image-long l e;
       b26 = ltb-true _ _ (both-first (ltb (getD l 26 0) 2) _ e26);
       b27 = ltb-true _ _ (both-first (ltb (getD l 27 0) 2) _ e27);
-      b28 = ltb-true _ _ (both-first (ltb (getD l 28 0) 4) _ e28);
-      b29 = both-first (either (eqb (getD l 28 0) 2) (eqb (getD l 29 0) 0)) _ e29;
+      b28 = both-first (isActivity (getD l 28 0) (getD l 29 0) (getD l 31 0)) _ e28;
       b30 = ltb-true _ _ (both-first (ltb (getD l 30 0) connectionCount) _ e30);
-      b31 = ltb-true _ _ (both-first (ltb (getD l 31 0) runningCount) _ e31);
       b32 = ltb-true _ _ (both-first (ltb (getD l 32 0) 3) _ e32);
       b33 = ltb-true _ _ (both-first (ltb (getD l 33 0) 2) _ e33);
       b34 = ltb-true _ _ (both-first (ltb (getD l 34 0) 2) _ e34);

@@ -1,6 +1,8 @@
 pub mod Cases
 pub mod FifoLaws
 pub mod Numbers
+pub mod Activities
+pub mod Table
 pub mod Sizes
 pub mod Computing
 pub mod Sessions
@@ -8,8 +10,10 @@ pub mod ImageLists
 pub mod ImageTests
 pub mod ImagePlaces
 pub mod ImageForms
+pub mod ImageActivity
 pub mod ImageValid
 pub mod ImageLaws
+pub mod BothRefused
 pub mod ImageFields
 pub mod ImageRegisters
 pub mod Moves

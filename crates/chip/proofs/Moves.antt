@@ -10,8 +10,8 @@ use borrow.Author.Tests.{ltb-true, leb-true, eqb-true, not-true, lt-leb, ne-eqb}
 use Rattle.chip.specs.Choice.{pick, both, either}
 use Rattle.chip.specs.declared.State.{State}
 use Rattle.chip.specs.declared.Fifo.{Fifo}
-use Rattle.chip.specs.declared.Pending.{Pending}
-use Rattle.chip.specs.declared.Pending.the-variants.{Nothing, Interrupt, Ending, ReadOut}
+use Rattle.chip.specs.declared.Activity.{Activity}
+use Rattle.chip.specs.declared.Activity.the-variants.{Idle, Interrupt, Runs, Ends, ReadOut}
 use Rattle.chip.specs.declared.Direction.{Direction}
 use Rattle.chip.specs.declared.Direction.the-variants.{Unfixed, In, Out}
 use Rattle.chip.specs.declared.Stage.{Stage}
@@ -25,13 +25,14 @@ use Rattle.chip.specs.Phases.{isNoted}
 use Rattle.chip.specs.Fifo.{isEmpty, hasRoom, front, pop, push}
 use Rattle.chip.specs.Count.{left, noneLeft, isLast, lowered, dbr, dbrBy}
 use Rattle.chip.specs.Connections.{isConnected}
-use Rattle.chip.specs.Interrupts.{busy, inEnding, isEnding, bytesUnread, isIncoming, settled, settledBy}
+use Rattle.chip.specs.Interrupts.{busy, inEnding, bytesUnread, isIncoming, settled, settledBy}
 use Rattle.chip.specs.TransferInfo.{transferInfoRequest, transferInfoOffered, transferInfoTaken, transferInfoSent, takenIn, parityNoted, unlessHalted, atnAfter}
 use Rattle.chip.specs.SelectAndTransfer.{stage, selectAndTransferRequest, requestAt, bodyRequest, unlessNoneLeft, dataIn, dataOut, takeData, sendData, phaseAfter}
 use Rattle.chip.specs.Registers.{accessed, stepped, accessedAt, isBlind, readAt, writtenAt, pointerAfter, registerAt, stored, dataRead, dataReadBy, dataWritten, dataWrittenBy}
 use Rattle.chip.specs.Events.{requested, requestedConnected, requestedRunning, isServed, remembered}
 use Rattle.chip.proofs.Cases.{by-test, taken as picked, passed-over, both-first, both-second}
-use Rattle.chip.specs.Running.{isSelectAndTransfer, isTransferInfo}
+use Rattle.chip.specs.Activity.{isEnding, isSelectAndTransfer, isTransferInfo, goesOn}
+use Rattle.chip.proofs.Activities.{going-is-still}
 use Rattle.chip.specs.Interrupts.{isOutgoing}
 use Rattle.chip.specs.Moves.{isPlain, readsData, writesBy, writesData, isUnderWay, isBody, carriesIn, carriesOut, takesByte, sendsByte}
 
@@ -96,16 +97,17 @@ module _ (s : State) (e : isPlain s ≡ true) where
 pointer-kept : (x : ℕ) (t : State) → t .status .pointer ≡ x → setPointer x t ≡ t
 pointer-kept x t e = ap (λ (y : ℕ). setPointer y t) (sym e)
 
-quiet-by : (p : Pending) (t : State) → isEnding p ≡ false → settledBy p t ≡ t
+quiet-by : (a : Activity) (t : State) → isEnding a ≡ false → settledBy a t ≡ t
 unfolding settledBy
-quiet-by Nothing t e = refl
+quiet-by Idle t e = refl
 quiet-by Interrupt t e = refl
-quiet-by (Ending c) t e = cc
-quiet-by ReadOut t e = cc
+quiet-by (Runs r) t e = refl
+quiet-by (Ends r k) t e = cc
+quiet-by (ReadOut r) t e = cc
 
 settled-quiet : (t : State) → inEnding t ≡ false → settled t ≡ t
 unfolding settled
-settled-quiet t e = rw (quiet-by (t .status .pending) t e) (pick-same _ t)
+settled-quiet t e = rw (quiet-by (t .activity) t e) (pick-same _ t)
 
 incoming-is : (d : Direction) → isIncoming d ≡ true → d ≡ In
 incoming-is Unfixed e = cc
@@ -239,11 +241,11 @@ module _ (s : State) (e : isUnderWay s ≡ true) where
 
   calm : inEnding s ≡ false
   unfolding isServed
-  calm = not-true _ (both-first _ _ (both-second (isConnected (s .wire .connection)) _ heard))
+  calm = going-is-still (s .activity) (both-first _ _ (both-second (isConnected (s .wire .connection)) _ heard)) .1
 
   no-ack : s .wire .handshake .ack ≡ false
   unfolding isServed
-  no-ack = not-true _ (both-second (not (inEnding s)) _ (both-second (isConnected (s .wire .connection)) _ heard))
+  no-ack = not-true _ (both-second (goesOn (s .activity)) _ (both-second (isConnected (s .wire .connection)) _ heard))
 
   no-one : s .transfer .single ≡ false
   unfolding isUnderWay
@@ -352,20 +354,20 @@ module _ (s : State) (e : isUnderWay s ≡ true) where
   served-in : (b : ℕ) → carriesIn s ≡ true → hasRoom (s .fifo) ≡ true → requestedRunning DataIn b false s ≡ done b (takenIn b false s)
   unfolding requestedRunning carriesIn
   served-in b c r =
-      by-test (isSelectAndTransfer (s .transfer .running))
+      by-test (isSelectAndTransfer (s .activity))
       (λ t. let d = sym (picked _ _ t) ∙ c in picked _ _ t ∙ sat-in b (both-first _ _ d) (both-second (isIncoming (s .transfer .direction)) _ d) r)
       (λ t. let d = sym (passed-over _ _ t) ∙ c in
-      passed-over _ _ t ∙ picked _ _ (both-first _ _ d) ∙ info-in b (both-second (isTransferInfo (s .transfer .running)) _ d) r)
+      passed-over _ _ t ∙ picked _ _ (both-first _ _ d) ∙ info-in b (both-second (isTransferInfo (s .activity)) _ d) r)
 
   served-out : (b : ℕ) (bad : Bool) → carriesOut s ≡ true → isEmpty (s .fifo) ≡ false
       → requestedRunning DataOut b bad s ≡ done (front (s .fifo)) (lowered (setFifo (pop (s .fifo)) s))
   unfolding requestedRunning carriesOut
   served-out b bad c r =
-      by-test (isSelectAndTransfer (s .transfer .running))
+      by-test (isSelectAndTransfer (s .activity))
       (λ t. let d = sym (picked _ _ t) ∙ c in
       picked _ _ t ∙ sat-out b bad (both-first _ _ d) (both-second (isOutgoing (s .transfer .direction)) _ d) r)
       (λ t. let d = sym (passed-over _ _ t) ∙ c in
-      passed-over _ _ t ∙ picked _ _ (both-first _ _ d) ∙ info-out b bad (both-second (isTransferInfo (s .transfer .running)) _ d) r)
+      passed-over _ _ t ∙ picked _ _ (both-first _ _ d) ∙ info-out b bad (both-second (isTransferInfo (s .activity)) _ d) r)
 
 module _ (s : State) (e : takesByte s ≡ true) where
   pub taking : isUnderWay s ≡ true

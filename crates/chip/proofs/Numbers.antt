@@ -1,24 +1,20 @@
--- The tests that compare connections and running commands by their numbers, as equations.
---   connection-of-number running-of-number   the number says which it is
---   connection-below running-below           there are no more
---   same-connection same-running             equal numbers, equal connections or commands
+-- The tests that compare connections and commands by their numbers, as equations.
+--   connection-of-number command-of-number   the number says which it is
+--   connection-below command-below           there are no more
+--   same-connection                          equal numbers, equal connections
 --   is-selecting is-connected is-disconnected   .. of the tests for one connection
---   is-transfer-info is-idle                 .. of the tests for Transfer Info, and for no command
+--   command-runs                             no command has the number of none
 use mathlib.Core.Path.{_≡_, refl, sym, ap, _∙_}
-use mathlib.Core.Bool.{Bool, true, false, not}
-use lib.Dec.{ltb}
+use mathlib.Core.Bool.{true, false}
+use lib.Dec.{eqb, ltb}
 use borrow.Author.Tests.{eqb-true}
 use Rattle.chip.specs.Choice.{pick}
 use Rattle.chip.specs.Connections.{connectionNumber, connectionCount, connectionOf, sameConnection, isSelecting, isConnected, isDisconnected}
-use Rattle.chip.specs.Running.{runningNumber, runningCount, runningOf, sameRunning, isRunning, isTransferInfo}
+use Rattle.chip.specs.Activity.{commandNumber, commandCount, commandOf}
 use Rattle.chip.specs.declared.Connection.{Connection}
 use Rattle.chip.specs.declared.Connection.the-variants.{Disconnected, Selecting, Waiting, Connected}
-use Rattle.chip.specs.declared.Running.{Running}
-use Rattle.chip.specs.declared.Running.the-variants.{Idle, SelectWithAtn, SelectWithoutAtn, SelectAndTransferWithAtn, SelectAndTransferWithoutAtn, TransferInfo}
-
-not-false : (t : Bool) → not t ≡ false → t ≡ true
-not-false true e = refl
-not-false false e = sym e
+use Rattle.chip.specs.declared.Command.{Command}
+use Rattle.chip.specs.declared.Command.the-variants.{SelectWithAtn, SelectWithoutAtn, SelectAndTransferWithAtn, SelectAndTransferWithoutAtn, TransferInfo}
 
 pub connection-of-number : (x : Connection) → connectionOf (connectionNumber x) ≡ x
 unfolding connectionOf pick
@@ -45,28 +41,24 @@ is-connected x e = same-connection x Connected e
 pub is-disconnected : (x : Connection) → isDisconnected x ≡ true → x ≡ Disconnected
 is-disconnected x e = same-connection x Disconnected e
 
-pub running-of-number : (r : Running) → runningOf (runningNumber r) ≡ r
-unfolding runningOf pick
-running-of-number Idle = refl
-running-of-number SelectWithAtn = refl
-running-of-number SelectWithoutAtn = refl
-running-of-number SelectAndTransferWithAtn = refl
-running-of-number SelectAndTransferWithoutAtn = refl
-running-of-number TransferInfo = refl
+pub command-of-number : (r : Command) → commandOf (commandNumber r) ≡ r
+unfolding commandOf pick
+command-of-number SelectWithAtn = refl
+command-of-number SelectWithoutAtn = refl
+command-of-number SelectAndTransferWithAtn = refl
+command-of-number SelectAndTransferWithoutAtn = refl
+command-of-number TransferInfo = refl
 
-pub running-below : (r : Running) → ltb (runningNumber r) runningCount ≡ true
-running-below Idle = refl
-running-below SelectWithAtn = refl
-running-below SelectWithoutAtn = refl
-running-below SelectAndTransferWithAtn = refl
-running-below SelectAndTransferWithoutAtn = refl
-running-below TransferInfo = refl
+pub command-below : (r : Command) → ltb (commandNumber r) commandCount ≡ true
+command-below SelectWithAtn = refl
+command-below SelectWithoutAtn = refl
+command-below SelectAndTransferWithAtn = refl
+command-below SelectAndTransferWithoutAtn = refl
+command-below TransferInfo = refl
 
-pub same-running : (r t : Running) → sameRunning r t ≡ true → r ≡ t
-same-running r t e = sym (running-of-number r) ∙ ap runningOf (eqb-true _ _ e) ∙ running-of-number t
-
-pub is-transfer-info : (r : Running) → isTransferInfo r ≡ true → r ≡ TransferInfo
-is-transfer-info r e = same-running r TransferInfo e
-
-pub is-idle : (r : Running) → isRunning r ≡ false → r ≡ Idle
-is-idle r e = same-running r Idle (not-false _ e)
+pub command-runs : (r : Command) → eqb (commandNumber r) 0 ≡ false
+command-runs SelectWithAtn = refl
+command-runs SelectWithoutAtn = refl
+command-runs SelectAndTransferWithAtn = refl
+command-runs SelectAndTransferWithoutAtn = refl
+command-runs TransferInfo = refl

@@ -15,22 +15,23 @@ use Rattle.chip.specs.declared.Place.the-variants.{Nowhere, Anywhere, Wh
 use Rattle.chip.specs.declared.Connection.{Connection}
 use Rattle.chip.specs.declared.Connection.the-variants.{Disconnected, Selecting}
 use Rattle.chip.specs.Connections.{isConnected, isDisconnected, isWaiting}
-use Rattle.chip.specs.declared.Running.{Running}
-use Rattle.chip.specs.declared.Running.the-variants.{Idle, SelectWithAtn, SelectWithoutAtn, SelectAndTransferWithAtn, SelectAndTransferWithoutAtn, TransferInfo}
-use Rattle.chip.specs.declared.Pending.the-variants.{Nothing, Interrupt}
+use Rattle.chip.specs.declared.Command.{Command}
+use Rattle.chip.specs.declared.Command.the-variants.{SelectWithAtn, SelectWithoutAtn, SelectAndTransferWithAtn, SelectAndTransferWithoutAtn, TransferInfo}
+use Rattle.chip.specs.declared.Activity.the-variants.{Idle, Interrupt, Runs}
+use Rattle.chip.specs.Activity.{goesOn}
 use Rattle.chip.specs.declared.Direction.{Direction}
 use Rattle.chip.specs.declared.Direction.the-variants.{Unfixed, In, Out}
 use Rattle.chip.specs.declared.Noted.{Noted}
 use Rattle.chip.specs.declared.Noted.the-variants.{NoPhase, Was}
 use Rattle.chip.specs.declared.Phase.{Phase}
 use Rattle.chip.specs.declared.Phase.the-variants.{MessageOut}
-use Rattle.chip.specs.State.{cleared, nothingRuns, apart, setFifo, setControl, setCommand, setLci, setPe, setPending, setRunning, setDirection, setConnection, setAtn, setAck, setReported, setElapsed}
+use Rattle.chip.specs.State.{cleared, nothingMoves, apart, setFifo, setControl, setCommand, setLci, setPe, setActivity, setDirection, setConnection, setAtn, setAck, setReported, setElapsed}
 use Rattle.chip.specs.Fifo.{empty}
 use Rattle.chip.specs.Answers.{done, ignored}
 use Rattle.chip.specs.Lines.{isSingle, codeOf, ownIdentity, withIdi}
 use Rattle.chip.specs.Phases.{phaseNumber, comesIn}
 use Rattle.chip.specs.Count.{loadedForTransferInfo}
-use Rattle.chip.specs.Interrupts.{interrupted, inEnding, busy, interrupt, raise, endingWith}
+use Rattle.chip.specs.Interrupts.{interrupted, busy, interrupt, raise, endingWith}
 use Rattle.chip.specs.SelectAndTransfer.{fromDisconnected, hasSize, isResumable, resumed}
 
 abbrev levelOne : Place → Entry
@@ -108,7 +109,7 @@ isSome (Was p) = true
 -- Select-And-Transfer: a command that has a size; connected, a phase register that is accepted for the resume.
 unfoldable pub isReady : ℕ → State → Bool
 isReady n s =
-    pick (eqb n 0x01) (both (busy s) (not (inEnding s)))
+    pick (eqb n 0x01) (goesOn (s .activity))
     (pick (either (eqb n 0x08) (eqb n 0x09)) (pick (isConnected (s .wire .connection)) (isResumable s) (hasSize s))
     (pick (eqb n 0x20) (both (not (s .wire .handshake .ack)) (isSome (s .wire .seen .reported))) true))
 
@@ -125,9 +126,10 @@ unfoldable pub reset : ℕ → State → State
 reset b s =
     record {
       registers = cleared (s .registers .setup .own);
-      status = record { pointer = s .status .pointer; code = resetCode s; command = b; lci = false; pe = false; pending = Interrupt };
+      status = record { pointer = s .status .pointer; code = resetCode s; command = b; lci = false; pe = false };
+      activity = Interrupt;
       fifo = empty;
-      transfer = nothingRuns;
+      transfer = nothingMoves;
       wire = apart (ownIdentity (s .registers .setup .own));
     }
 
@@ -147,14 +149,14 @@ aborted s =
 unfoldable pub disconnected : State → State
 disconnected s =
     setConnection Disconnected
-    (setAtn false (setAck false (setPending Nothing (setRunning Idle (setDirection Unfixed (setFifo empty s))))))
+    (setAtn false (setAck false (setActivity Idle (setDirection Unfixed (setFifo empty s)))))
 
 -- a selection begins
-unfoldable pub selecting : Running → State → State
-selecting r s = setRunning r (setConnection Selecting (setElapsed 0 s))
+unfoldable pub selecting : Command → State → State
+selecting r s = setActivity (Runs r) (setConnection Selecting (setElapsed 0 s))
 
 -- "Select (06 to 09): Disconnected. 08/09 when connected are the resume."
-unfoldable pub selectAndTransferBegun : Running → State → State
+unfoldable pub selectAndTransferBegun : Command → State → State
 selectAndTransferBegun r s = pick (isConnected (s .wire .connection)) (resumed r s) (selecting r (fromDisconnected s))
 
 -- the way of a phase: "Odd p comes in"
@@ -164,7 +166,7 @@ wayOf (Was p) = pick (comesIn p) In Out
 
 -- Transfer Info begins, in the reported phase
 unfoldable pub transferInfoBegun : Bool → State → State
-transferInfoBegun single s = setRunning TransferInfo (setDirection (wayOf (s .wire .seen .reported)) (loadedForTransferInfo single s))
+transferInfoBegun single s = setActivity (Runs TransferInfo) (setDirection (wayOf (s .wire .seen .reported)) (loadedForTransferInfo single s))
 
 -- a valid command, by its code; single is its bit 7
 unfoldable pub carriedOut : ℕ → Bool → State → State

@@ -13,11 +13,11 @@ use Rattle.chip.specs.declared.Noted.the-variants.{NoPhase, Was}
 use Rattle.chip.specs.declared.Phase.{Phase}
 use Rattle.chip.specs.Phases.{phaseNumber, isNoted}
 use Rattle.chip.specs.Connections.{isSelecting, isWaiting, isConnected}
-use Rattle.chip.specs.Running.{isSelectAndTransfer, isTransferInfo, setsAtn}
+use Rattle.chip.specs.Activity.{isSelectAndTransfer, isTransferInfo, setsAtn, goesOn}
 use Rattle.chip.specs.State.{setConnection, setAtn, setAck, setReported, setLast, setPhase, setSource, setElapsed}
 use Rattle.chip.specs.Answers.{says, done, held, outOfPlace, reselectionIgnored, reports}
 use Rattle.chip.specs.Lines.{qualifies, areTwo, otherIdentity, sourceAfter, destination, sameIdentity}
-use Rattle.chip.specs.Interrupts.{interrupted, inEnding, raise, unlessInterrupt}
+use Rattle.chip.specs.Interrupts.{inEnding, raise, unlessInterrupt}
 use Rattle.chip.specs.TransferInfo.{transferInfoRequest, transferInfoFree}
 use Rattle.chip.specs.SelectAndTransfer.{selectAndTransferRequest, selectAndTransferFree}
 
@@ -27,16 +27,19 @@ use Rattle.chip.specs.SelectAndTransfer.{selectAndTransferRequest, selec
 unfoldable pub timedOut : State → State
 timedOut s = raise 0x42 (setConnection Disconnected s)
 
--- "While selecting with register 02 not 0, units add up"; "A Time event while a selection runs with INT set is Held too."
+-- "While selecting with register 02 not 0, units add up"
 unfoldable pub selectionTime : ℕ → State → Reply
 selectionTime n s =
-    pick (interrupted s) (held s)
-    (pick (eqb (s .registers .setup .timeout) 0) (done 0 s)
-    (pick (leb (s .registers .setup .timeout) (s .wire .elapsed + n)) (done 0 (timedOut s)) (done 0 (setElapsed (s .wire .elapsed + n) s))))
+    pick (eqb (s .registers .setup .timeout) 0) (done 0 s)
+    (pick (leb (s .registers .setup .timeout) (s .wire .elapsed + n)) (done 0 (timedOut s)) (done 0 (setElapsed (s .wire .elapsed + n) s)))
 
--- n units pass. In an ending Time "is Done without effect"; while selecting the units add up; "Otherwise Done without effect."
+-- a selection runs: selecting, by a command. Then no status is unread, and no ending is under way
+unfoldable pub selects : State → Bool
+selects s = both (isSelecting (s .wire .connection)) (goesOn (s .activity))
+
+-- n units pass. While selecting they add up; "Otherwise Done without effect."
 unfoldable pub passed : ℕ → State → Reply
-passed n s = pick (inEnding s) (done 0 s) (pick (isSelecting (s .wire .connection)) (selectionTime n s) (done 0 s))
+passed n s = pick (selects s) (selectionTime n s) (done 0 s)
 
 -- Answer
 
@@ -46,18 +49,17 @@ connected s = setConnection Connected (setReported NoPhase (setLast NoPhase s))
 
 -- "ATN set for 06 and 08"
 unfoldable pub answeredState : State → State
-answeredState s = setAtn (either (setsAtn (s .transfer .running)) (s .wire .handshake .atn)) (connected s)
+answeredState s = setAtn (either (setsAtn (s .activity)) (s .wire .handshake .atn)) (connected s)
 
 -- "for 06/07 code 11h; for 08/09 phase register 10h"
 unfoldable pub answeredSelecting : State → Reply
 answeredSelecting s =
-    pick (inEnding s) (held s)
-    (pick (isSelectAndTransfer (s .transfer .running)) (done 0 (setPhase 0x10 (answeredState s)))
-    (unlessInterrupt s (done 0 (raise 0x11 (answeredState s)))))
+    pick (isSelectAndTransfer (s .activity)) (done 0 (setPhase 0x10 (answeredState s)))
+    (done 0 (raise 0x11 (answeredState s)))
 
 -- "only while selecting, else 2"
 unfoldable pub answered : State → Reply
-answered s = pick (isSelecting (s .wire .connection)) (answeredSelecting s) (outOfPlace s)
+answered s = pick (selects s) (answeredSelecting s) (outOfPlace s)
 
 -- Reselection
 
@@ -72,7 +74,7 @@ reselectedWithCode lines s = unlessInterrupt s (done 0 (raise 0x80 (reselectedSt
 -- "a waiting Select-And-Transfer whose 15h bits 2 to 0 name that identity". One line names nobody.
 unfoldable pub namesTarget : ℕ → State → Bool
 namesTarget lines s =
-    both (isSelectAndTransfer (s .transfer .running))
+    both (isSelectAndTransfer (s .activity))
     (both (areTwo lines) (sameIdentity (otherIdentity (s .wire .identity) lines) (destination s)))
 
 -- in an ending Held; "except a waiting Select-And-Transfer ..: phase 44h, no interrupt"
@@ -99,8 +101,8 @@ idleRequest p s =
 -- by the command that runs; a Select has done its work when connected
 unfoldable pub requestedRunning : Phase → ℕ → Bool → State → Reply
 requestedRunning p b bad s =
-    pick (isSelectAndTransfer (s .transfer .running)) (selectAndTransferRequest p b bad s)
-    (pick (isTransferInfo (s .transfer .running)) (transferInfoRequest p b bad s) (idleRequest p s))
+    pick (isSelectAndTransfer (s .activity)) (selectAndTransferRequest p b bad s)
+    (pick (isTransferInfo (s .activity)) (transferInfoRequest p b bad s) (idleRequest p s))
 
 -- in an ending "bus events are Held"; "Held while ACK is held"
 unfoldable pub requestedConnected : Phase → ℕ → Bool → State → Reply
@@ -109,7 +111,7 @@ requestedConnected p b bad s =
 
 -- a Request comes to the running command, and is not Held before: connected, no ending under way, ACK not held
 unfoldable pub isServed : State → Bool
-isServed s = both (isConnected (s .wire .connection)) (both (not (inEnding s)) (not (s .wire .handshake .ack)))
+isServed s = both (isConnected (s .wire .connection)) (both (goesOn (s .activity)) (not (s .wire .handshake .ack)))
 
 -- "the last Request answered Done or Reported since connection" is kept in mind for Abort
 abbrev pub rememberedBy : Answer → Phase → Reply → Reply
@@ -144,8 +146,8 @@ idleFree s = unlessInterrupt s (done 0 (raise 0x85 (busFree s)))
 -- by the command that runs
 unfoldable pub freedRunning : State → Reply
 freedRunning s =
-    pick (isSelectAndTransfer (s .transfer .running)) (selectAndTransferFree s (busFree s))
-    (pick (isTransferInfo (s .transfer .running)) (transferInfoFree s (busFree s))
+    pick (isSelectAndTransfer (s .activity)) (selectAndTransferFree s (busFree s))
+    (pick (isTransferInfo (s .activity)) (transferInfoFree s (busFree s))
     (idleFree s))
 
 -- "Free: connected only; unless Held .."

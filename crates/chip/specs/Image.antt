@@ -10,15 +10,13 @@ use Rattle.chip.specs.Choice.{pick, both, either}
 use Rattle.chip.specs.Fifo.{fifoBytes, fifoOf, isFifo}
 use Rattle.chip.specs.Lines.{bit}
 use Rattle.chip.specs.declared.State.{State}
-use Rattle.chip.specs.declared.Pending.{Pending}
-use Rattle.chip.specs.declared.Pending.the-variants.{Nothing, Interrupt, Ending, ReadOut}
 use Rattle.chip.specs.declared.Direction.{Direction}
 use Rattle.chip.specs.declared.Direction.the-variants.{Unfixed, In, Out}
 use Rattle.chip.specs.declared.Noted.{Noted}
 use Rattle.chip.specs.declared.Noted.the-variants.{NoPhase, Was}
 use Rattle.chip.specs.Phases.{phaseNumber, phaseOf}
 use Rattle.chip.specs.Connections.{connectionNumber, connectionOf, connectionCount}
-use Rattle.chip.specs.Running.{runningNumber, runningOf, runningCount}
+use Rattle.chip.specs.Activity.{runningNumber, pendingNumber, codeToCome, activityOf, isActivity}
 
 -- how many bytes an image has
 abbrev pub imageLength : ℕ
@@ -34,19 +32,6 @@ abbrev pub directionByte : Direction → ℕ
 directionByte Unfixed = 0
 directionByte In = 1
 directionByte Out = 2
-
-abbrev pub pendingByte : Pending → ℕ
-pendingByte Nothing = 0
-pendingByte Interrupt = 1
-pendingByte (Ending k) = 2
-pendingByte ReadOut = 3
-
--- the code of an ending; 0 where there is none
-abbrev pub endingByte : Pending → ℕ
-endingByte Nothing = 0
-endingByte Interrupt = 0
-endingByte (Ending k) = k
-endingByte ReadOut = 0
 
 -- a phase is one more than its number, no phase is 0
 abbrev pub notedByte : Noted → ℕ
@@ -73,10 +58,10 @@ middleBytes s =
     ∷ s .status .pointer
     ∷ bit (s .status .lci)
     ∷ bit (s .status .pe)
-    ∷ pendingByte (s .status .pending)
-    ∷ endingByte (s .status .pending)
+    ∷ pendingNumber (s .activity)
+    ∷ codeToCome (s .activity)
     ∷ connectionNumber (s .wire .connection)
-    ∷ runningNumber (s .transfer .running)
+    ∷ runningNumber (s .activity)
     ∷ directionByte (s .transfer .direction)
     ∷ bit (s .transfer .single)
     ∷ bit (s .wire .handshake .atn)
@@ -95,9 +80,6 @@ imageOf s = headBytes s ++ (s .registers .descriptor .cdb ++ (middleBytes s ++ f
 
 unfoldable pub directionOf : ℕ → Direction
 directionOf n = pick (eqb n 0) Unfixed (pick (eqb n 1) In Out)
-
-unfoldable pub pendingOf : ℕ → ℕ → Pending
-pendingOf n k = pick (eqb n 0) Nothing (pick (eqb n 1) Interrupt (pick (eqb n 2) (Ending k) ReadOut))
 
 unfoldable pub notedOf : ℕ → Noted
 notedOf n = pick (eqb n 0) NoPhase (Was (phaseOf (n - 1)))
@@ -121,12 +103,11 @@ stateOf l =
             command = getD l 24 0;
             lci = eqb (getD l 26 0) 1;
             pe = eqb (getD l 27 0) 1;
-            pending = pendingOf (getD l 28 0) (getD l 29 0);
           };
+      activity = activityOf (getD l 28 0) (getD l 29 0) (getD l 31 0);
       fifo = fifoOf (drop fifoPlace l);
       transfer =
-          record
-          { running = runningOf (getD l 31 0); direction = directionOf (getD l 32 0); single = eqb (getD l 33 0) 1 };
+          record { direction = directionOf (getD l 32 0); single = eqb (getD l 33 0) 1 };
       wire =
           record {
             connection = connectionOf (getD l 30 0);
@@ -137,21 +118,19 @@ stateOf l =
           };
     }
 
--- the bytes are a state's image: the length, the range of each byte that has one, no ending's code without an ending, and the
--- FIFO's own bytes
+-- the bytes are a state's image: the length, the range of each byte that has one, the three that together say the activity (INT beside
+-- a running command is none), and the FIFO's own bytes
 unfoldable pub isImage : List ℕ → Bool
 isImage l =
     both (eqb (length l) imageLength)
     (both (ltb (getD l 26 0) 2)
     (both (ltb (getD l 27 0) 2)
-    (both (ltb (getD l 28 0) 4)
-    (both (either (eqb (getD l 28 0) 2) (eqb (getD l 29 0) 0))
+    (both (isActivity (getD l 28 0) (getD l 29 0) (getD l 31 0))
     (both (ltb (getD l 30 0) connectionCount)
-    (both (ltb (getD l 31 0) runningCount)
     (both (ltb (getD l 32 0) 3)
     (both (ltb (getD l 33 0) 2)
     (both (ltb (getD l 34 0) 2)
     (both (ltb (getD l 35 0) 2)
     (both (ltb (getD l 36 0) 9)
     (both (ltb (getD l 37 0) 9)
-    (both (ltb (getD l 38 0) 8) (isFifo (drop fifoPlace l)))))))))))))))
+    (both (ltb (getD l 38 0) 8) (isFifo (drop fifoPlace l)))))))))))))

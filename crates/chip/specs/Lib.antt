@@ -1,6 +1,6 @@
 pub mod Choice
 pub mod Connections
-pub mod Running
+pub mod Activity
 pub mod Fifo
 pub mod State
 pub mod Answers

@@ -14,7 +14,7 @@ use Rattle.chip.specs.declared.Phase.the-variants.{DataOut, DataIn}
 use Rattle.chip.specs.Phases.{isNoted}
 use Rattle.chip.specs.Fifo.{isEmpty, hasRoom}
 use Rattle.chip.specs.Interrupts.{busy, inEnding, bytesUnread, isIncoming, isOutgoing}
-use Rattle.chip.specs.Running.{isSelectAndTransfer, isTransferInfo}
+use Rattle.chip.specs.Activity.{isSelectAndTransfer, isTransferInfo}
 use Rattle.chip.specs.Count.{dbr}
 use Rattle.chip.specs.SelectAndTransfer.{stage}
 use Rattle.chip.specs.Events.{isServed}
@@ -53,14 +53,14 @@ isBody Elsewhere = false
 -- the running command takes in a byte of Data In
 unfoldable pub carriesIn : State → Bool
 carriesIn s =
-    pick (isSelectAndTransfer (s .transfer .running)) (both (isIncoming (s .transfer .direction)) (isBody (stage s)))
-    (both (isTransferInfo (s .transfer .running)) (isNoted DataIn (s .wire .seen .reported)))
+    pick (isSelectAndTransfer (s .activity)) (both (isIncoming (s .transfer .direction)) (isBody (stage s)))
+    (both (isTransferInfo (s .activity)) (isNoted DataIn (s .wire .seen .reported)))
 
 -- the running command sends one of Data Out
 unfoldable pub carriesOut : State → Bool
 carriesOut s =
-    pick (isSelectAndTransfer (s .transfer .running)) (both (isOutgoing (s .transfer .direction)) (isBody (stage s)))
-    (both (isTransferInfo (s .transfer .running)) (isNoted DataOut (s .wire .seen .reported)))
+    pick (isSelectAndTransfer (s .activity)) (both (isOutgoing (s .transfer .direction)) (isBody (stage s)))
+    (both (isTransferInfo (s .activity)) (isNoted DataOut (s .wire .seen .reported)))
 
 -- a Request of Data In with good parity is taken into the FIFO, and nothing ends
 unfoldable pub takesByte : State → Bool

@@ -13,11 +13,12 @@ use Rattle.chip.specs.declared.Answer.{Answer}
 use Rattle.chip.specs.declared.Answer.the-variants.{Done, Held, OutOfPlace, BadNumber, Blind, CommandIgnored, ReselectionIgnored, NoDataNow, Reported}
 use Rattle.chip.specs.declared.Direction.{Direction}
 use Rattle.chip.specs.declared.Direction.the-variants.{Unfixed, In, Out}
-use Rattle.chip.specs.State.{setPointer, setFifo, setPending, setRegisters, withOwn, withControl, withTimeout, withCdb, withLun, withPhase, withSynchronous, withCount, withDestination, withSource}
+use Rattle.chip.specs.State.{setPointer, setFifo, setActivity, setRegisters, withOwn, withControl, withTimeout, withCdb, withLun, withPhase, withSynchronous, withCount, withDestination, withSource}
 use Rattle.chip.specs.Answers.{says, done, noDataNow}
 use Rattle.chip.specs.Lines.{packed}
 use Rattle.chip.specs.Fifo.{front, pop, push}
-use Rattle.chip.specs.Interrupts.{interrupted, busy, settled, withoutInterrupt}
+use Rattle.chip.specs.Interrupts.{interrupted, busy, settled}
+use Rattle.chip.specs.Activity.{withoutInterrupt}
 use Rattle.chip.specs.Count.{dbr}
 use Rattle.chip.specs.Commands.{commanded}
 
@@ -105,7 +106,7 @@ dataWritten b s = dataWrittenBy (s .transfer .direction) b s
 -- "Reading 17h gives the code and clears INT; the code stays readable. 18h reads back the last command not ignored, all 8 bits."
 unfoldable pub readAt : ℕ → State → Reply
 readAt a s =
-    pick (eqb a 0x17) (done (s .status .code) (setPending (withoutInterrupt (s .status .pending)) s))
+    pick (eqb a 0x17) (done (s .status .code) (setActivity (withoutInterrupt (s .activity)) s))
     (pick (eqb a 0x18) (done (s .status .command) s)
     (pick (eqb a 0x19) (dataRead s) (done (registerAt a (s .registers)) s)))
 

@@ -8,22 +8,22 @@ use Rattle.chip.specs.declared.State.{State}
 use Rattle.chip.specs.declared.Reply.{Reply}
 use Rattle.chip.specs.declared.Stage.{Stage}
 use Rattle.chip.specs.declared.Stage.the-variants.{SendIdentify, SendCommand, Body, AfterData, Disconnecting, Reselected, AfterStatus, Elsewhere}
-use Rattle.chip.specs.declared.Running.{Running}
+use Rattle.chip.specs.declared.Command.{Command}
 use Rattle.chip.specs.declared.Direction.{Direction}
 use Rattle.chip.specs.declared.Direction.the-variants.{Unfixed, In, Out}
 use Rattle.chip.specs.declared.Phase.{Phase}
 use Rattle.chip.specs.declared.Phase.the-variants.{DataOut, DataIn, CommandOut, StatusIn, UnspecifiedOut, UnspecifiedIn, MessageOut, MessageIn}
 use Rattle.chip.specs.declared.Noted.the-variants.{NoPhase, Was}
-use Rattle.chip.specs.declared.Pending.the-variants.{ReadOut}
+use Rattle.chip.specs.declared.Activity.the-variants.{Runs}
 use Rattle.chip.specs.declared.Connection.the-variants.{Waiting}
-use Rattle.chip.specs.State.{setFifo, setAck, setAtn, setReported, setPhase, setLun, setDirection, setPending, setConnection, setRunning}
+use Rattle.chip.specs.State.{setFifo, setAck, setAtn, setReported, setPhase, setLun, setDirection, setActivity, setConnection}
 use Rattle.chip.specs.Answers.{done, held, reports}
 use Rattle.chip.specs.Phases.{phaseNumber, isCommandOut, isMessageOut, isMessageIn}
-use Rattle.chip.specs.Running.{setsAtn}
+use Rattle.chip.specs.Activity.{setsAtn, readsOut}
 use Rattle.chip.specs.Lines.{er, idi, lunOf, identify}
 use Rattle.chip.specs.Fifo.{isEmpty, hasRoom, front, pop}
 use Rattle.chip.specs.Count.{noneLeft, isLast, lowered, loaded}
-use Rattle.chip.specs.Interrupts.{endingWith, unlessInterrupt, outgoingDropped, bytesUnread}
+use Rattle.chip.specs.Interrupts.{endingWith, outgoingDropped, bytesUnread}
 use Rattle.chip.specs.TransferInfo.{parityNoted, unlessHalted, takenIn}
 
 -- "CDB byte 1 is register 03; its top three bits give 6, 10 or 12 bytes for groups 0, 1, 5"; 0 for a group that has no size
@@ -65,7 +65,7 @@ stageOf identifies phase n =
 
 -- "Anything else is Reported, ending with 48h+p, and not taken, other messages included (4Fh)"
 unfoldable pub unexpected : Phase → State → Reply
-unexpected p s = unlessInterrupt s (reports (endingWith (0x48 + phaseNumber p) (setReported (Was p) s)))
+unexpected p s = reports (endingWith (0x48 + phaseNumber p) (setReported (Was p) s))
 
 -- 10h: "with 08, Message Out takes 80h + LUN (0Fh bits 2 to 0), plus 40h if ER; ATN clears; 20h"
 unfoldable pub sendIdentify : Phase → State → Reply
@@ -117,8 +117,7 @@ takeStatus b bad s = unlessHalted bad s (done b (setPhase 0x50 (setLun b (outgoi
 unfoldable pub takeSave : Bool → State → Reply
 takeSave bad s =
     unlessHalted bad s
-    (unlessInterrupt s
-    (done 0x02 (endingWith 0x21 (setReported NoPhase (setAck true (setPhase 0x41 (parityNoted bad s)))))))
+    (done 0x02 (endingWith 0x21 (setReported NoPhase (setAck true (setPhase 0x41 (parityNoted bad s))))))
 
 -- "04 gives 42h" (Disconnect)
 unfoldable pub takeDisconnect : Bool → State → Reply
@@ -162,7 +161,7 @@ takeIdentify p b bad s =
 unfoldable pub completed : Bool → State → Reply
 completed bad s =
     unlessHalted bad s
-    (unlessInterrupt s (done 0x00 (endingWith 0x16 (setReported NoPhase (setPhase 0x60 (parityNoted bad s))))))
+    (done 0x00 (endingWith 0x16 (setReported NoPhase (setPhase 0x60 (parityNoted bad s)))))
 
 unfoldable pub takeComplete : Phase → ℕ → Bool → State → Reply
 takeComplete p b bad s = pick (both (isMessageIn p) (eqb b 0x00)) (completed bad s) (unexpected p s)
@@ -180,7 +179,7 @@ requestAt Elsewhere p b bad s = unexpected p s
 
 -- what the phase register of the running Select-And-Transfer stands for
 unfoldable pub stage : State → Stage
-stage s = stageOf (setsAtn (s .transfer .running)) (s .registers .descriptor .phase) (size s)
+stage s = stageOf (setsAtn (s .activity)) (s .registers .descriptor .phase) (size s)
 
 -- a Request while a Select-And-Transfer runs
 unfoldable pub selectAndTransferRequest : Phase → ℕ → Bool → State → Reply
@@ -191,15 +190,15 @@ selectAndTransferRequest p b bad s = requestAt (stage s) p b bad s
 -- t is s with the bus free and phase 43h.
 unfoldable pub freeToWait : State → State → Reply
 freeToWait s t =
-    pick (bytesUnread s) (unlessInterrupt s (done 0 (setPending ReadOut t))) (done 0 (setConnection Waiting t))
+    pick (bytesUnread s) (done 0 (setActivity (readsOut (s .activity)) t)) (done 0 (setConnection Waiting t))
 
 unfoldable pub freeAfterDisconnect : State → State → Reply
-freeAfterDisconnect s t = pick (idi s) (unlessInterrupt s (done 0 (endingWith 0x85 t))) (freeToWait s t)
+freeAfterDisconnect s t = pick (idi s) (done 0 (endingWith 0x85 t)) (freeToWait s t)
 
 -- "a Free elsewhere: Disconnected, ending with 41h"
 unfoldable pub selectAndTransferFree : State → State → Reply
 selectAndTransferFree s t =
-    pick (eqb (s .registers .descriptor .phase) 0x42) (freeAfterDisconnect s (setPhase 0x43 t)) (unlessInterrupt s (done 0 (endingWith 0x41 t)))
+    pick (eqb (s .registers .descriptor .phase) 0x42) (freeAfterDisconnect s (setPhase 0x43 t)) (done 0 (endingWith 0x41 t))
 
 -- "From Disconnected, phase 00."
 unfoldable pub fromDisconnected : State → State
@@ -231,8 +230,8 @@ unfoldable pub ackAfterResume : State → Bool
 ackAfterResume s = both (eqb (s .registers .descriptor .phase) 0x46) (s .wire .handshake .ack)
 
 -- "Resume loads the count anew, forgets the direction .. 60h ends with 16h."
-unfoldable pub resumed : Running → State → State
+unfoldable pub resumed : Command → State → State
 resumed r s =
     pick (eqb (s .registers .descriptor .phase) 0x60)
-    (endingWith 0x16 (setReported NoPhase (setAck (ackAfterResume s) (setRunning r (loaded s)))))
-    (setAck (ackAfterResume s) (setRunning r (loaded s)))
+    (endingWith 0x16 (setReported NoPhase (setAck (ackAfterResume s) (setActivity (Runs r) (loaded s)))))
+    (setAck (ackAfterResume s) (setActivity (Runs r) (loaded s)))

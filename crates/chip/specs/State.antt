@@ -18,10 +18,8 @@ use Rattle.chip.specs.declared.Seen.{Seen}
 use Rattle.chip.specs.declared.Identity.{Identity}
 use Rattle.chip.specs.declared.Connection.{Connection}
 use Rattle.chip.specs.declared.Connection.the-variants.{Disconnected}
-use Rattle.chip.specs.declared.Running.{Running}
-use Rattle.chip.specs.declared.Running.the-variants.{Idle}
-use Rattle.chip.specs.declared.Pending.{Pending}
-use Rattle.chip.specs.declared.Pending.the-variants.{Nothing}
+use Rattle.chip.specs.declared.Activity.{Activity}
+use Rattle.chip.specs.declared.Activity.the-variants.{Idle}
 use Rattle.chip.specs.declared.Direction.{Direction}
 use Rattle.chip.specs.declared.Direction.the-variants.{Unfixed}
 use Rattle.chip.specs.declared.Noted.{Noted}
@@ -39,9 +37,9 @@ cleared own =
       source = 0;
     }
 
--- no command runs, no direction is fixed
-abbrev pub nothingRuns : Transfer
-nothingRuns = record { running = Idle; direction = Unfixed; single = false }
+-- no direction is fixed
+abbrev pub nothingMoves : Transfer
+nothingMoves = record { direction = Unfixed; single = false }
 
 -- Disconnected, under an identity
 abbrev pub apart : Identity → Wire
@@ -58,28 +56,32 @@ abbrev pub fresh : State
 fresh =
     record {
       registers = cleared 0;
-      status = record { pointer = 0; code = 0; command = 0; lci = false; pe = false; pending = Nothing };
+      status = record { pointer = 0; code = 0; command = 0; lci = false; pe = false };
+      activity = Idle;
       fifo = empty;
-      transfer = nothingRuns;
+      transfer = nothingMoves;
       wire = apart (record { number = 0 });
     }
 
 -- the parts of the state
 
 abbrev pub setRegisters : Registers → State → State
-setRegisters x s = record { registers = x; status = s.status; fifo = s.fifo; transfer = s.transfer; wire = s.wire }
+setRegisters x s = record { registers = x; status = s.status; activity = s.activity; fifo = s.fifo; transfer = s.transfer; wire = s.wire }
 
 abbrev pub setStatus : Status → State → State
-setStatus x s = record { registers = s.registers; status = x; fifo = s.fifo; transfer = s.transfer; wire = s.wire }
+setStatus x s = record { registers = s.registers; status = x; activity = s.activity; fifo = s.fifo; transfer = s.transfer; wire = s.wire }
+
+abbrev pub setActivity : Activity → State → State
+setActivity x s = record { registers = s.registers; status = s.status; activity = x; fifo = s.fifo; transfer = s.transfer; wire = s.wire }
 
 abbrev pub setFifo : Fifo → State → State
-setFifo x s = record { registers = s.registers; status = s.status; fifo = x; transfer = s.transfer; wire = s.wire }
+setFifo x s = record { registers = s.registers; status = s.status; activity = s.activity; fifo = x; transfer = s.transfer; wire = s.wire }
 
 abbrev pub setTransfer : Transfer → State → State
-setTransfer x s = record { registers = s.registers; status = s.status; fifo = s.fifo; transfer = x; wire = s.wire }
+setTransfer x s = record { registers = s.registers; status = s.status; activity = s.activity; fifo = s.fifo; transfer = x; wire = s.wire }
 
 abbrev pub setWire : Wire → State → State
-setWire x s = record { registers = s.registers; status = s.status; fifo = s.fifo; transfer = s.transfer; wire = x }
+setWire x s = record { registers = s.registers; status = s.status; activity = s.activity; fifo = s.fifo; transfer = s.transfer; wire = x }
 
 -- the registers
 
@@ -147,22 +149,19 @@ setSource x s = setRegisters (withSource x s.registers) s
 -- the status
 
 abbrev withPointer : ℕ → Status → Status
-withPointer x t = record { pointer = x; code = t.code; command = t.command; lci = t.lci; pe = t.pe; pending = t.pending }
+withPointer x t = record { pointer = x; code = t.code; command = t.command; lci = t.lci; pe = t.pe }
 
 abbrev withCode : ℕ → Status → Status
-withCode x t = record { pointer = t.pointer; code = x; command = t.command; lci = t.lci; pe = t.pe; pending = t.pending }
+withCode x t = record { pointer = t.pointer; code = x; command = t.command; lci = t.lci; pe = t.pe }
 
 abbrev withCommand : ℕ → Status → Status
-withCommand x t = record { pointer = t.pointer; code = t.code; command = x; lci = t.lci; pe = t.pe; pending = t.pending }
+withCommand x t = record { pointer = t.pointer; code = t.code; command = x; lci = t.lci; pe = t.pe }
 
 abbrev withLci : Bool → Status → Status
-withLci x t = record { pointer = t.pointer; code = t.code; command = t.command; lci = x; pe = t.pe; pending = t.pending }
+withLci x t = record { pointer = t.pointer; code = t.code; command = t.command; lci = x; pe = t.pe }
 
 abbrev withPe : Bool → Status → Status
-withPe x t = record { pointer = t.pointer; code = t.code; command = t.command; lci = t.lci; pe = x; pending = t.pending }
-
-abbrev withPending : Pending → Status → Status
-withPending x t = record { pointer = t.pointer; code = t.code; command = t.command; lci = t.lci; pe = t.pe; pending = x }
+withPe x t = record { pointer = t.pointer; code = t.code; command = t.command; lci = t.lci; pe = x }
 
 abbrev pub setPointer : ℕ → State → State
 setPointer x s = setStatus (withPointer x s.status) s
@@ -179,22 +178,13 @@ setLci x s = setStatus (withLci x s.status) s
 abbrev pub setPe : Bool → State → State
 setPe x s = setStatus (withPe x s.status) s
 
-abbrev pub setPending : Pending → State → State
-setPending x s = setStatus (withPending x s.status) s
-
 -- the transfer
 
-abbrev withRunning : Running → Transfer → Transfer
-withRunning x t = record { running = x; direction = t.direction; single = t.single }
-
 abbrev withDirection : Direction → Transfer → Transfer
-withDirection x t = record { running = t.running; direction = x; single = t.single }
+withDirection x t = record { direction = x; single = t.single }
 
 abbrev withSingle : Bool → Transfer → Transfer
-withSingle x t = record { running = t.running; direction = t.direction; single = x }
-
-abbrev pub setRunning : Running → State → State
-setRunning x s = setTransfer (withRunning x s.transfer) s
+withSingle x t = record { direction = t.direction; single = x }
 
 abbrev pub setDirection : Direction → State → State
 setDirection x s = setTransfer (withDirection x s.transfer) s

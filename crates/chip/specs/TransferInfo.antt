@@ -12,12 +12,12 @@ use Rattle.chip.specs.Phases.{phaseNumber, comesIn, isMessageOut, isMess
 use Rattle.chip.specs.Lines.{hsp}
 use Rattle.chip.specs.Fifo.{isEmpty, hasRoom, front, pop, push}
 use Rattle.chip.specs.Count.{noneLeft, isLast, lowered}
-use Rattle.chip.specs.Interrupts.{endingWith, unlessInterrupt}
+use Rattle.chip.specs.Interrupts.{endingWith}
 
 -- "Bad parity on any byte that would be taken in sets PE; with HSP the byte is not taken or counted, ACK is held, answer 8,
 -- ending with 43h." 43h leaves no phase reported.
 unfoldable pub halted : State → Reply
-halted s = unlessInterrupt s (reports (endingWith 0x43 (setReported NoPhase (setAck true (setPe true s)))))
+halted s = reports (endingWith 0x43 (setReported NoPhase (setAck true (setPe true s))))
 
 -- r, the reply where the byte is taken in, unless its parity halts the transfer
 unfoldable pub unlessHalted : Bool → State → Reply → Reply
@@ -45,7 +45,7 @@ takenIn b bad s = lowered (setFifo (push b (s .fifo)) (parityNoted bad s))
 unfoldable pub transferInfoTaken : Phase → ℕ → Bool → State → Reply
 transferInfoTaken p b bad s =
     pick (both (isMessageIn p) (isLast s))
-    (unlessInterrupt s (done b (endingWith 0x20 (setReported NoPhase (setAck true (takenIn b bad s))))))
+    (done b (endingWith 0x20 (setReported NoPhase (setAck true (takenIn b bad s)))))
     (done b (takenIn b bad s))
 
 -- "Held if it is .. full"
@@ -58,7 +58,7 @@ overCode p s = pick (noneLeft s) 0x18 0x48 + phaseNumber p
 
 -- "With none left, or with another phase, it is Reported"
 unfoldable pub transferInfoOver : Phase → State → Reply
-transferInfoOver p s = unlessInterrupt s (reports (endingWith (overCode p s) (setReported (Was p) s)))
+transferInfoOver p s = reports (endingWith (overCode p s) (setReported (Was p) s))
 
 -- "A Request of the phase under transfer with bytes left .." The phase under transfer is the reported one: the command began
 -- with it, and the next report ends the command.
@@ -74,4 +74,4 @@ transferInfoFreeCode s = pick (noneLeft s) 0x85 0x41
 
 -- t is s with the bus free
 unfoldable pub transferInfoFree : State → State → Reply
-transferInfoFree s t = unlessInterrupt s (done 0 (endingWith (transferInfoFreeCode s) t))
+transferInfoFree s t = done 0 (endingWith (transferInfoFreeCode s) t)

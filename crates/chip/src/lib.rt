@@ -32,9 +32,8 @@ pub enum Connection {
     Connected,
 }
 
-// The Level II command that runs.
-pub enum Running {
-    Idle,
+// The Level II commands that run from call to call.
+pub enum Command {
     SelectWithAtn,
     SelectWithoutAtn,
     SelectAndTransferWithAtn,
@@ -42,13 +41,15 @@ pub enum Running {
     TransferInfo,
 }
 
-// What is pending for the host. No state has INT and an ending, since these are cases of one type.
-// Ending holds the code that is raised when the incoming bytes are read out; ReadOut raises none and waits for reselection then.
-pub enum Pending {
-    Nothing,
+// What the controller is at: the command that runs, and what is pending for the host, as one sum. INT is set in Interrupt and nowhere
+// else, BSY where there is a command. So no state has INT and BSY, nor INT and an ending: there is no way to write it down.
+// Ends holds the code that is raised when the incoming bytes are read out; ReadOut raises none and waits for reselection then.
+pub enum Activity {
+    Idle,
     Interrupt,
-    Ending(u8),
-    ReadOut,
+    Runs(Command),
+    Ends(Command, u8),
+    ReadOut(Command),
 }
 
 // The way that data goes, as far as a command has fixed it.
@@ -100,14 +101,13 @@ pub struct Registers {
     pub source: u8,
 }
 
-// What the host sees beside the registers: the pointer, SCSI Status (17h), Command (18h), LCI, PE and what is pending.
+// What the host sees beside the registers: the pointer, SCSI Status (17h), Command (18h), LCI and PE. INT and BSY are the activity's.
 pub struct Status {
     pub pointer: u8,
     pub code: u8,
     pub command: u8,
     pub lci: bool,
     pub pe: bool,
-    pub pending: Pending,
 }
 
 // The waiting bytes, the oldest first: those of bytes below held. The others are 0.
@@ -116,9 +116,8 @@ pub struct Fifo {
     pub held: u8,
 }
 
-// The running command, the way of its data, and whether the count stands for the single byte that 12h to 14h do not show.
+// The way of data, and whether the count stands for the single byte that 12h to 14h do not show.
 pub struct Transfer {
-    pub running: Running,
     pub direction: Direction,
     pub single: bool,
 }
@@ -150,6 +149,7 @@ pub struct State {
     pub fifo: Fifo,
     pub transfer: Transfer,
     pub wire: Wire,
+    pub activity: Activity,
 }
 
 // What a call gives: its answer and the new state.

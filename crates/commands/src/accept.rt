@@ -4,13 +4,14 @@ ghost use mathlib.Core.Path.{_≡_};
 ghost use Rattle.chip.specs.Choice.{both, either, pick};
 ghost use Rattle.chip.specs.Commands.{accepted, isPlace, isReady, isSome, isTwo};
 ghost use Rattle.chip.specs.Connections.{isConnected};
-ghost use Rattle.chip.specs.Interrupts.{busy, inEnding};
+ghost use Rattle.chip.specs.Interrupts.{busy};
 ghost use Rattle.chip.specs.SelectAndTransfer.{hasSize, isResumable};
 use chip::Entry;
 use chip::Noted;
 use chip::State;
 use select_and_transfer::resume;
 use select_and_transfer::stage;
+use state::activity;
 use state::connections;
 use state::get;
 use state::set;
@@ -22,19 +23,6 @@ fn is_some(n: Noted) -> bool
         Noted::NoPhase => false,
         Noted::Was(_) => true,
     }
-}
-
-// Abort.
-fn is_abortable(s: State) -> bool
-    ensures { λ r. ⌜ r ≡ both (busy s) (not (inEnding s)) ⌝ }
-{
-    if interrupts::busy(s) {
-        if interrupts::in_ending(s) {
-            return false;
-        }
-        return true;
-    }
-    false
 }
 
 // Select-And-Transfer.
@@ -61,7 +49,7 @@ fn is_ready(n: u8, s: State) -> bool
     ensures { λ r. ⌜ r ≡ isReady n s ⌝ }
 {
     if n == 0x01 {
-        return is_abortable(s);
+        return activity::goes_on(s);
     }
     if n == 0x08 {
         return is_transferable(s);

@@ -1,12 +1,12 @@
 // What each command does.
 ghost use mathlib.Core.Path.{_≡_};
 ghost use Rattle.chip.specs.Commands.{abortPhase, aborted, disconnected, transferInfoBegun, reset, selecting, selectAndTransferBegun, wayOf};
+use chip::Activity;
+use chip::Command;
 use chip::Connection;
 use chip::Direction;
 use chip::Noted;
-use chip::Pending;
 use chip::Phase;
-use chip::Running;
 use chip::State;
 use chip::Status;
 use select_and_transfer::resume;
@@ -26,10 +26,9 @@ pub fn reset(b: u8, s: State) -> State
         command: b,
         lci: false,
         pe: false,
-        pending: Pending::Interrupt,
     };
     let fifo = fifo::empty();
-    let transfer = fresh::nothing_runs();
+    let transfer = fresh::nothing_moves();
     let wire = fresh::apart(lines::own_identity(own));
     State {
         registers,
@@ -37,6 +36,7 @@ pub fn reset(b: u8, s: State) -> State
         fifo,
         transfer,
         wire,
+        activity: Activity::Interrupt,
     }
 }
 
@@ -63,23 +63,23 @@ pub fn disconnected(s: State) -> State
     ensures { λ r. ⌜ r ≡ disconnected s ⌝ }
 {
     let t = set::direction(set::fifo(s, fifo::empty()), Direction::Unfixed);
-    let u = set::pending(set::running(t, Running::Idle), Pending::Nothing);
+    let u = set::activity(t, Activity::Idle);
     set::connection(
         set::atn(set::ack(u, false), false),
         Connection::Disconnected,
     )
 }
 
-pub fn selecting(r: Running, s: State) -> State
+pub fn selecting(r: Command, s: State) -> State
     ensures { λ x. ⌜ x ≡ selecting r s ⌝ }
 {
-    set::running(
+    set::activity(
         set::connection(set::elapsed(s, 0), Connection::Selecting),
-        r,
+        Activity::Runs(r),
     )
 }
 
-pub fn select_and_transfer_begun(r: Running, s: State) -> State
+pub fn select_and_transfer_begun(r: Command, s: State) -> State
     ensures { λ x. ⌜ x ≡ selectAndTransferBegun r s ⌝ }
 {
     if connections::is_connected(s) {
@@ -110,8 +110,8 @@ pub fn transfer_info_begun(single: bool, s: State) -> State
     ensures { λ r. ⌜ r ≡ transferInfoBegun single s ⌝ }
 {
     let direction = way_of(get::reported(s));
-    set::running(
+    set::activity(
         set::direction(count::loaded_for_transfer_info(single, s), direction),
-        Running::TransferInfo,
+        Activity::Runs(Command::TransferInfo),
     )
 }

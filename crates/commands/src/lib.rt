@@ -4,8 +4,8 @@ pub mod act;
 
 ghost use mathlib.Core.Path.{_≡_};
 ghost use Rattle.chip.specs.Commands.{carriedOut, commanded};
+use chip::Command;
 use chip::Reply;
-use chip::Running;
 use chip::State;
 use state::set;
 
@@ -25,16 +25,16 @@ fn carried_out(n: u8, single: bool, s: State) -> State
         return act::disconnected(s);
     }
     if n == 0x06 {
-        return act::selecting(Running::SelectWithAtn, s);
+        return act::selecting(Command::SelectWithAtn, s);
     }
     if n == 0x07 {
-        return act::selecting(Running::SelectWithoutAtn, s);
+        return act::selecting(Command::SelectWithoutAtn, s);
     }
     if n == 0x08 {
-        return act::select_and_transfer_begun(Running::SelectAndTransferWithAtn, s);
+        return act::select_and_transfer_begun(Command::SelectAndTransferWithAtn, s);
     }
     if n == 0x09 {
-        return act::select_and_transfer_begun(Running::SelectAndTransferWithoutAtn, s);
+        return act::select_and_transfer_begun(Command::SelectAndTransferWithoutAtn, s);
     }
     if n == 0x0f {
         return set::control(s, lines::with_idi(s.registers.setup.control));

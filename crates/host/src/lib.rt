@@ -11,6 +11,7 @@ ghost use lib.Dec.{eqb};
 use chip::Answer;
 use chip::Reply;
 use chip::State;
+use state::activity;
 use state::get;
 use state::set;
 
@@ -86,8 +87,8 @@ fn read_at(a: u8, s: State) -> Reply
     ensures { λ r. ⌜ r ≡ readAt a s ⌝ }
 {
     if a == 0x17 {
-        let pending = interrupts::without_interrupt(get::pending(s));
-        return answers::done(s.status.code, set::pending(s, pending));
+        let a = activity::without_interrupt(get::activity(s));
+        return answers::done(s.status.code, set::activity(s, a));
     }
     if a == 0x18 {
         return answers::done(s.status.command, s);

@@ -1,10 +1,9 @@
 // The bytes that stand for cases: for each type a function to the byte and one back.
 use chip::Direction;
 use chip::Noted;
-use chip::Pending;
 ghost use mathlib.Core.Path.{_≡_};
 ghost use Rattle.chip.specs.Lines.{bit};
-ghost use Rattle.chip.specs.Image.{directionByte, directionOf, pendingByte, endingByte, pendingOf, notedByte, notedOf};
+ghost use Rattle.chip.specs.Image.{directionByte, directionOf, notedByte, notedOf};
 
 pub(crate) fn bit_of(b: bool) -> u8
     ensures { λ r. ⌜ r ≡ bit b ⌝ }
@@ -32,43 +31,6 @@ pub(crate) fn direction_of(n: u8) -> Direction
         return Direction::In;
     }
     Direction::Out
-}
-
-pub(crate) fn pending_byte(p: Pending) -> u8
-    ensures { λ r. ⌜ r ≡ pendingByte p ⌝ }
-{
-    match p {
-        Pending::Nothing => 0,
-        Pending::Interrupt => 1,
-        Pending::Ending(_) => 2,
-        Pending::ReadOut => 3,
-    }
-}
-
-pub(crate) fn ending_byte(p: Pending) -> u8
-    ensures { λ r. ⌜ r ≡ endingByte p ⌝ }
-{
-    match p {
-        Pending::Nothing => 0,
-        Pending::Interrupt => 0,
-        Pending::Ending(code) => code,
-        Pending::ReadOut => 0,
-    }
-}
-
-pub(crate) fn pending_of(n: u8, code: u8) -> Pending
-    ensures { λ r. ⌜ r ≡ pendingOf n code ⌝ }
-{
-    if n == 0 {
-        return Pending::Nothing;
-    }
-    if n == 1 {
-        return Pending::Interrupt;
-    }
-    if n == 2 {
-        return Pending::Ending(code);
-    }
-    Pending::ReadOut
 }
 
 pub(crate) fn noted_byte(p: Noted) -> u8

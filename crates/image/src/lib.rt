@@ -8,14 +8,15 @@ use chip::State;
 use fifo::part;
 use parts::put_image;
 use parts::state_of;
+use state::activity;
 use state::connections;
 use state::fresh;
-use state::running;
 ghost use mathlib.Core.Path.{_≡_};
 ghost use lib.Dec.{eqb};
 ghost use lib.ListN.{length};
 ghost use Rattle.chip.specs.Choice.{pick};
 ghost use Rattle.chip.specs.State.{fresh};
+ghost use Rattle.chip.specs.Activity.{isActivity};
 ghost use Rattle.chip.specs.Image.{imageLength, isImage, imageOf, stateOf};
 ghost use Rattle.image.specs.IsImage.{IsImage};
 ghost use mathlib.Core.Bool.{true};
@@ -33,6 +34,20 @@ pub const LENGTH: usize = 53;
 // Where the FIFO's bytes begin.
 const FIFO: usize = 40;
 
+// The three bytes that say the activity: where something is pending, it is INT exactly if no command runs. Mostly nothing is, so that is
+// asked first.
+fn is_activity(p: u8, k: u8, n: u8) -> bool
+    ensures { λ r. ⌜ r ≡ isActivity p k n ⌝ }
+{
+    if p == 0 {
+        return (k == 0) & (n < activity::COMMANDS);
+    }
+    if n == 0 {
+        return (p == 1) & (k == 0);
+    }
+    (n < activity::COMMANDS) & ((p == 2) | ((p == 3) & (k == 0)))
+}
+
 fn has_form(image: &[u8]) -> bool
     ensures { λ r. ⌜ r ≡ isImage (now (image .entry)) ⌝ }
 {
@@ -41,10 +56,8 @@ fn has_form(image: &[u8]) -> bool
     }
     let ranges = (image[26] < 2)
         & (image[27] < 2)
-        & (image[28] < 4)
-        & ((image[28] == 2) | (image[29] == 0))
+        & is_activity(image[28], image[29], image[31])
         & (image[30] < connections::COUNT)
-        & (image[31] < running::COUNT)
         & (image[32] < 3)
         & (image[33] < 2)
         & (image[34] < 2)

@@ -4,14 +4,12 @@ use crate::LENGTH;
 use crate::cases::bit_of;
 use crate::cases::direction_byte;
 use crate::cases::direction_of;
-use crate::cases::ending_byte;
 use crate::cases::noted_byte;
 use crate::cases::noted_of;
-use crate::cases::pending_byte;
-use crate::cases::pending_of;
 use crate::copy::get;
 use crate::copy::put;
 use crate::store;
+use chip::Activity;
 use chip::Descriptor;
 use chip::Fifo;
 use chip::Handshake;
@@ -24,8 +22,8 @@ use chip::Status;
 use chip::Transfer;
 use chip::Wire;
 use fifo::part;
+use state::activity;
 use state::connections;
-use state::running;
 ghost use mathlib.Core.Path.{_≡_};
 ghost use Prim.Native.Nat.{_+_, _*_, _/_, _%_};
 ghost use lib.ListN.{length, take, drop};
@@ -80,14 +78,12 @@ fn status_of(image: &[u8]) -> Status
     requires { ⌜ length (now image) ≡ imageLength ⌝ }
     ensures { λ r. ⌜ r ≡ stateOf (now (image .entry)) .status ⌝ }
 {
-    let pending = pending_of(image[28], image[29]);
     Status {
         pointer: image[25],
         code: image[23],
         command: image[24],
         lci: image[26] == 1,
         pe: image[27] == 1,
-        pending,
     }
 }
 
@@ -102,10 +98,8 @@ fn transfer_of(image: &[u8]) -> Transfer
     requires { ⌜ length (now image) ≡ imageLength ⌝ }
     ensures { λ r. ⌜ r ≡ stateOf (now (image .entry)) .transfer ⌝ }
 {
-    let running = running::running_of(image[31]);
     let direction = direction_of(image[32]);
     Transfer {
-        running,
         direction,
         single: image[33] == 1,
     }
@@ -130,6 +124,13 @@ fn wire_of(image: &[u8]) -> Wire
     }
 }
 
+fn activity_of(image: &[u8]) -> Activity
+    requires { ⌜ length (now image) ≡ imageLength ⌝ }
+    ensures { λ r. ⌜ r ≡ stateOf (now (image .entry)) .activity ⌝ }
+{
+    activity::activity_of(image[28], image[29], image[31])
+}
+
 // The state whose image the bytes are; of bytes that are no image, some state or other.
 pub(crate) fn state_of(image: &[u8]) -> State
     requires { ⌜ length (now image) ≡ imageLength ⌝ }
@@ -140,12 +141,14 @@ pub(crate) fn state_of(image: &[u8]) -> State
     let fifo = fifo_of(image);
     let transfer = transfer_of(image);
     let wire = wire_of(image);
+    let activity = activity_of(image);
     State {
         registers,
         status,
         fifo,
         transfer,
         wire,
+        activity,
     }
 }
 
@@ -181,14 +184,14 @@ fn put_status(s: State, image: &mut [u8])
     ensures { λ _. ⌜ now (image .exit) ≡ sets (now (image .entry)) 23 (take 7 (drop 8 (middleBytes s))) ⌝ }
 {
     let status = s.status;
-    let pending = status.pending;
+    let a = s.activity;
     image[23] = status.code;
     image[24] = status.command;
     image[25] = status.pointer;
     image[26] = bit_of(status.lci);
     image[27] = bit_of(status.pe);
-    image[28] = pending_byte(pending);
-    image[29] = ending_byte(pending);
+    image[28] = activity::pending_number(a);
+    image[29] = activity::code_to_come(a);
 }
 
 // Bytes 30 to 39: the bus and the running command.
@@ -199,13 +202,13 @@ fn put_rest(s: State, image: &mut [u8])
     let transfer = s.transfer;
     let wire = s.wire;
     let connection = wire.connection;
-    let running = transfer.running;
+    let a = s.activity;
     let direction = transfer.direction;
     let seen = wire.seen;
     let reported = seen.reported;
     let last = seen.last;
     image[30] = connections::connection_number(connection);
-    image[31] = running::running_number(running);
+    image[31] = activity::running_number(a);
     image[32] = direction_byte(direction);
     image[33] = bit_of(transfer.single);
     image[34] = bit_of(wire.handshake.atn);

@@ -1,65 +1,37 @@
 // Interrupts and endings. Each function is the definition of the same name in chip's specs/Interrupts.antt.
 ghost use mathlib.Core.Path.{_≡_};
-ghost use Rattle.chip.specs.Interrupts.{isInterrupt, interrupted, isEnding, inEnding, busy, interrupt, withoutOutgoing, closed, outgoingDropped, raise, isIncoming, isOutgoing, bytesUnread, endingWith, settledBy, settled, withoutInterrupt};
+ghost use Rattle.chip.specs.Interrupts.{interrupted, inEnding, busy, interrupt, withoutOutgoing, closed, outgoingDropped, raise, isIncoming, isOutgoing, bytesUnread, endingWith, settledBy, settled};
+use chip::Activity;
 use chip::Connection;
 use chip::Direction;
 use chip::Fifo;
-use chip::Pending;
-use chip::Running;
 use chip::State;
+use state::activity;
 use state::get;
-use state::running;
 use state::set;
-
-fn is_interrupt(p: Pending) -> bool
-    ensures { λ r. ⌜ r ≡ isInterrupt p ⌝ }
-{
-    match p {
-        Pending::Nothing => false,
-        Pending::Interrupt => true,
-        Pending::Ending(_) => false,
-        Pending::ReadOut => false,
-    }
-}
 
 pub fn interrupted(s: State) -> bool
     ensures { λ r. ⌜ r ≡ interrupted s ⌝ }
 {
-    let pending = get::pending(s);
-    is_interrupt(pending)
-}
-
-fn is_ending(p: Pending) -> bool
-    ensures { λ r. ⌜ r ≡ isEnding p ⌝ }
-{
-    match p {
-        Pending::Nothing => false,
-        Pending::Interrupt => false,
-        Pending::Ending(_) => true,
-        Pending::ReadOut => true,
-    }
+    activity::is_interrupt(s)
 }
 
 pub fn in_ending(s: State) -> bool
     ensures { λ r. ⌜ r ≡ inEnding s ⌝ }
 {
-    let pending = get::pending(s);
-    is_ending(pending)
+    activity::is_ending(s)
 }
 
 pub fn busy(s: State) -> bool
     ensures { λ r. ⌜ r ≡ busy s ⌝ }
 {
-    if running::is_running(s) {
-        return true;
-    }
-    in_ending(s)
+    activity::is_running(s)
 }
 
 pub fn interrupt(k: u8, s: State) -> State
     ensures { λ r. ⌜ r ≡ interrupt k s ⌝ }
 {
-    set::pending(set::code(s, k), Pending::Interrupt)
+    set::activity(set::code(s, k), Activity::Interrupt)
 }
 
 fn without_outgoing(d: Direction, q: Fifo) -> Fifo
@@ -96,7 +68,7 @@ pub fn outgoing_dropped(s: State) -> State
 pub fn raise(k: u8, s: State) -> State
     ensures { λ r. ⌜ r ≡ raise k s ⌝ }
 {
-    interrupt(k, set::running(outgoing_dropped(s), Running::Idle))
+    interrupt(k, outgoing_dropped(s))
 }
 
 fn is_incoming(d: Direction) -> bool
@@ -149,19 +121,23 @@ pub fn ending_with(k: u8, s: State) -> State
     ensures { λ r. ⌜ r ≡ endingWith k s ⌝ }
 {
     if bytes_unread(s) {
-        return set::pending(s, Pending::Ending(k));
+        return set::activity(s, activity::ends(k, get::activity(s)));
     }
     raise(k, s)
 }
 
-fn settled_by(p: Pending, s: State) -> State
-    ensures { λ r. ⌜ r ≡ settledBy p s ⌝ }
+fn settled_by(a: Activity, s: State) -> State
+    ensures { λ r. ⌜ r ≡ settledBy a s ⌝ }
 {
-    match p {
-        Pending::Nothing => s,
-        Pending::Interrupt => s,
-        Pending::Ending(k) => raise(k, s),
-        Pending::ReadOut => set::connection(set::pending(s, Pending::Nothing), Connection::Waiting),
+    match a {
+        Activity::Idle => s,
+        Activity::Interrupt => s,
+        Activity::Runs(_) => s,
+        Activity::Ends(_, k) => raise(k, s),
+        Activity::ReadOut(r) => set::connection(
+            set::activity(s, Activity::Runs(r)),
+            Connection::Waiting,
+        ),
     }
 }
 
@@ -170,19 +146,8 @@ pub fn settled(s: State) -> State
 {
     let q = s.fifo;
     if fifo::is_empty(q) {
-        let pending = get::pending(s);
-        return settled_by(pending, s);
+        let a = get::activity(s);
+        return settled_by(a, s);
     }
     s
-}
-
-pub fn without_interrupt(p: Pending) -> Pending
-    ensures { λ r. ⌜ r ≡ withoutInterrupt p ⌝ }
-{
-    match p {
-        Pending::Nothing => Pending::Nothing,
-        Pending::Interrupt => Pending::Nothing,
-        Pending::Ending(k) => Pending::Ending(k),
-        Pending::ReadOut => Pending::ReadOut,
-    }
 }

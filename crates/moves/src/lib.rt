@@ -9,7 +9,7 @@ ghost use Rattle.chip.specs.Fifo.{hasRoom, isEmpty};
 ghost use Rattle.chip.specs.Interrupts.{isIncoming, isOutgoing};
 ghost use Rattle.chip.specs.Moves.{carriesIn, carriesOut, isBody, isPlain, isUnderWay, readsData, sendsByte, takesByte, writesBy, writesData};
 ghost use Rattle.chip.specs.Phases.{isNoted};
-ghost use Rattle.chip.specs.Running.{isTransferInfo};
+ghost use Rattle.chip.specs.Activity.{isTransferInfo};
 ghost use Rattle.chip.specs.SelectAndTransfer.{stage};
 use bus::request;
 use chip::Direction;
@@ -17,8 +17,8 @@ use chip::Phase;
 use chip::Stage;
 use chip::State;
 use select_and_transfer::stage;
+use state::activity;
 use state::get;
-use state::running;
 
 // The next register access is one of 00 to 16h, in reach.
 pub fn is_plain(s: State) -> bool
@@ -126,9 +126,9 @@ fn expects_out(s: State) -> bool
 
 // Transfer Info runs in the phase p.
 fn transfer_info_in(p: Phase, s: State) -> bool
-    ensures { λ r. ⌜ r ≡ both (isTransferInfo (s .transfer .running)) (isNoted p (s .wire .seen .reported)) ⌝ }
+    ensures { λ r. ⌜ r ≡ both (isTransferInfo (s .activity)) (isNoted p (s .wire .seen .reported)) ⌝ }
 {
-    if running::is_transfer_info(s) {
+    if activity::is_transfer_info(s) {
         return transfer_info::is_reported(p, s);
     }
     false
@@ -137,7 +137,7 @@ fn transfer_info_in(p: Phase, s: State) -> bool
 fn carries_in(s: State) -> bool
     ensures { λ r. ⌜ r ≡ carriesIn s ⌝ }
 {
-    if running::is_select_and_transfer(s) {
+    if activity::is_select_and_transfer(s) {
         return expects_in(s);
     }
     transfer_info_in(Phase::DataIn, s)
@@ -146,7 +146,7 @@ fn carries_in(s: State) -> bool
 fn carries_out(s: State) -> bool
     ensures { λ r. ⌜ r ≡ carriesOut s ⌝ }
 {
-    if running::is_select_and_transfer(s) {
+    if activity::is_select_and_transfer(s) {
         return expects_out(s);
     }
     transfer_info_in(Phase::DataOut, s)

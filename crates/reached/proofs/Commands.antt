@@ -2,7 +2,6 @@
 --   commanded-kept   of every command, from every shape
 --   Rest             no command runs and nothing is pending
 --   refused          where two tests do not both hold and the second does, the first does not
---   as-info          a code that has no line of its own in `carriedOut` is valid only as Transfer Info is
 use mathlib.Core.Path.{_≡_, refl, sym, _∙_}
 use mathlib.Core.Bool.{Bool, true, false, not, true≢false, false≢true}
 use mathlib.Core.List.{List, [], _∷_}
@@ -15,149 +14,98 @@ use Rattle.chip.specs.Choice.{pick, both, either}
 use Rattle.chip.specs.Lines.{codeOf, ownIdentity}
 use Rattle.chip.specs.Fifo.{isEmpty}
 use Rattle.chip.specs.Count.{loaded, loadedForTransferInfo}
-use Rattle.chip.specs.Interrupts.{isEnding, isInterrupt, busy, interrupt}
-use Rattle.chip.specs.Running.{isRunning}
+use Rattle.chip.specs.Interrupts.{busy, interrupt}
+use Rattle.chip.specs.Activity.{isInterrupt, isRunning, goesOn}
 use Rattle.chip.specs.SelectAndTransfer.{fromDisconnected, resumed}
-use Rattle.chip.specs.Commands.{leftOut, table, entryOf, isTwo, isPlace, isReady, isValid, reset, aborted, disconnected, selecting, selectAndTransferBegun, wayOf, transferInfoBegun, carriedOut, accepted, isRefusedBusy, commanded}
+use Rattle.chip.specs.Commands.{table, entryOf, isTwo, isPlace, isReady, isValid, reset, aborted, disconnected, selecting, selectAndTransferBegun, wayOf, transferInfoBegun, carriedOut, accepted, isRefusedBusy, commanded}
 use Rattle.chip.specs.Connections.{isConnected, isDisconnected}
 use Rattle.chip.specs.declared.State.{State}
 use Rattle.chip.specs.declared.Entry.{Entry}
 use Rattle.chip.specs.declared.Place.{Place}
 use Rattle.chip.specs.declared.Place.the-variants.{Nowhere, Anywhere, WhenDisconnected, WhenConnected, WhenConnectedOrWaiting, WhenConnectedOrDisconnected}
 use Rattle.chip.specs.declared.Fifo.{Fifo}
-use Rattle.chip.specs.declared.Pending.{Pending}
-use Rattle.chip.specs.declared.Pending.the-variants.{Nothing, Interrupt, Ending, ReadOut}
-use Rattle.chip.specs.declared.Running.{Running}
-use Rattle.chip.specs.declared.Running.the-variants.{Idle, SelectWithAtn, SelectWithoutAtn, SelectAndTransferWithAtn, SelectAndTransferWithoutAtn}
+use Rattle.chip.specs.declared.Activity.{Activity}
+use Rattle.chip.specs.declared.Command.{Command}
+use Rattle.chip.specs.declared.Activity.the-variants.{Idle, Interrupt, Runs, Ends, ReadOut}
+use Rattle.chip.specs.declared.Command.the-variants.{SelectWithAtn, SelectWithoutAtn, SelectAndTransferWithAtn, SelectAndTransferWithoutAtn}
 use Rattle.chip.specs.declared.Connection.{Connection}
 use Rattle.chip.specs.declared.Direction.{Direction}
 use Rattle.chip.specs.declared.Noted.{Noted}
 use Rattle.chip.proofs.Cases.{by-pick, by-case, both-first, both-second, either-first, either-second, either-last}
 use Rattle.chip.specs.Interrupts.{isOutgoing}
-use Rattle.reached.specs.Sound.{Placed, apart, joined, unfixed, none, Shape, idle, selects, waits, selectsAndTransfers, transfersInfo, ending, readOut, SelectsAndTransfers, with-atn, without-atn, select-and-transfer, transfer-info, Selects, six, seven}
+use Rattle.reached.specs.Sound.{Placed, unasked, told, apart, joined, unfixed, none, Shape, idle, selects, waits, selectsAndTransfers, transfersInfo, ending, readOut, SelectsAndTransfers, with-atn, without-atn, select-and-transfer, transfer-info, Selects, six, seven}
 use Rattle.chip.specs.Fifo.{Whole}
 use Rattle.chip.proofs.FifoLaws.{keeps-bytes}
+use Rattle.chip.proofs.Table.{isLikeInfo, as-info, narrow, unlisted}
 use Rattle.reached.proofs.Shapes.{Numbered, Good, so, Fine, being, clash, empty-way, raised, ended, selects-and-transfers-run, moves-run, selects-run, transfers-selects}
-
--- ---- the table
-
--- each entry passes at its place
-unfoldable all-at : List Entry → (ℕ → Entry → Bool) → Bool
-all-at [] passes = true
-all-at (x ∷ l) passes = both (passes 0 x) (all-at l (λ i. passes (suc i)))
-
-at-place : (l : List Entry) (passes : ℕ → Entry → Bool) → ((i : ℕ) → passes i leftOut ≡ true) → all-at l passes ≡ true → (i : ℕ)
-    → passes i (getD l i leftOut) ≡ true
-unfolding all-at
-at-place [] passes z h i = z i
-at-place (x ∷ l) passes z h zero = both-first _ _ h
-at-place (x ∷ l) passes z h (suc i) = at-place l (λ i. passes (suc i)) (λ i. z (suc i)) (both-second (passes 0 x) _ h) i
-
--- Reset, and the codes that have a line of their own in `carriedOut`
-unfoldable isListed : ℕ → Bool
-isListed c =
-    either (eqb c 0x00)
-    (either (eqb c 0x01)
-    (either (eqb c 0x02)
-    (either (eqb c 0x03)
-    (either (eqb c 0x04)
-    (either (eqb c 0x06) (either (eqb c 0x07) (either (eqb c 0x08) (either (eqb c 0x09) (eqb c 0x0F)))))))))
-
--- valid nowhere, or when connected
-abbrev isNarrow : Place → Bool
-isNarrow Nowhere = true
-isNarrow Anywhere = false
-isNarrow WhenDisconnected = false
-isNarrow WhenConnected = true
-isNarrow WhenConnectedOrWaiting = false
-isNarrow WhenConnectedOrDisconnected = false
-
-abbrev isLikeInfo : Entry → Bool
-isLikeInfo x = both (isTwo (x .level)) (isNarrow (x .place))
-
-as-info : (c : ℕ) → isListed c ≡ false → isLikeInfo (entryOf c) ≡ true
-unfolding entryOf table isListed all-at both either
-as-info c e = either-second _ _ (at-place table (λ i x. either (isListed i) (isLikeInfo x)) (λ i. either-last (isListed i)) refl c) e
-
-narrow : (p : Place) (c : Connection) → isNarrow p ≡ true → isPlace p c ≡ true → isConnected c ≡ true
-narrow Nowhere c e h = absurd (false≢true h)
-narrow Anywhere c e h = absurd (false≢true e)
-narrow WhenDisconnected c e h = absurd (false≢true e)
-narrow WhenConnected c e h = h
-narrow WhenConnectedOrWaiting c e h = absurd (false≢true e)
-narrow WhenConnectedOrDisconnected c e h = absurd (false≢true e)
 
 -- ---- no command runs and nothing is pending
 
-data Rest : Pending → Running → Connection → Direction → Fifo → Bool → Bool → Type 0 where
+data Rest : Activity → Connection → Direction → Fifo → Bool → Bool → Type 0 where
   rest : {c : Connection} {d : Direction} {q : Fifo} {atn ack : Bool} → isOutgoing d ≡ false → isEmpty q ≡ true → Placed c atn ack
-      → Rest Nothing Idle c d q atn ack
+      → Rest Idle c d q atn ack
 
-nothing : (p : Pending) → isEnding p ≡ false → isInterrupt p ≡ false → p ≡ Nothing
-nothing Nothing e i = refl
-nothing Interrupt e i = absurd (true≢false i)
-nothing (Ending c) e i = absurd (true≢false e)
-nothing ReadOut e i = absurd (true≢false e)
-
-resting : {single : Bool} {n : ℕ} {p : Pending} {r : Running} {c : Connection} {d : Direction} {q : Fifo} {atn ack : Bool} {w : Noted}
-    → Shape single n p r c d q atn ack w → isInterrupt p ≡ false → either (isRunning r) (isEnding p) ≡ false → Rest p r c d q atn ack
-resting {p = p} (idle e o h l) i b = rw (nothing p e i) (rest o h l)
-resting (selects k o h) i b = clash (selects-run k) (either-first _ _ b)
-resting (waits k h) i b = clash (selects-and-transfers-run k) (either-first _ _ b)
-resting (selectsAndTransfers k h) i b = clash (selects-and-transfers-run k) (either-first _ _ b)
-resting (transfersInfo h e) i b = absurd (true≢false (either-first _ _ b))
-resting (ending k h l) i b = clash (moves-run k) (either-first _ _ b)
-resting (readOut k h) i b = clash (selects-and-transfers-run k) (either-first _ _ b)
+resting : {single : Bool} {n : ℕ} {x : Activity} {c : Connection} {d : Direction} {q : Fifo} {atn ack : Bool} {w : Noted}
+    → Shape single n x c d q atn ack w → isInterrupt x ≡ false → isRunning x ≡ false → Rest x c d q atn ack
+resting (idle unasked o h l) i b = rest o h l
+resting (idle told o h l) i b = absurd (true≢false i)
+resting (selects k o h) i b = clash (selects-run k) b
+resting (waits k h) i b = clash (selects-and-transfers-run k) b
+resting (selectsAndTransfers k h) i b = clash (selects-and-transfers-run k) b
+resting (transfersInfo h e) i b = absurd (true≢false b)
+resting (ending k h l) i b = clash (moves-run k) b
+resting (readOut k h) i b = clash (selects-and-transfers-run k) b
 
 -- ATN and held ACK may be anything when connected
-lines : {single : Bool} {n : ℕ} {p : Pending} {r : Running} {c : Connection} {d : Direction} {q : Fifo} {atn ack : Bool} {w : Noted} (x y : Bool)
-    → Shape single n p r c d q atn ack w → isConnected c ≡ true → Shape single n p r c d q x y w
-lines x y (idle e o h apart) f = absurd (false≢true f)
-lines x y (idle e o h joined) f = idle e o h joined
-lines x y (selects k o h) f = absurd (false≢true f)
-lines x y (waits k h) f = absurd (false≢true f)
-lines x y (selectsAndTransfers k h) f = selectsAndTransfers k h
-lines x y (transfersInfo h e) f = transfersInfo h e
-lines x y (ending k h apart) f = absurd (false≢true f)
-lines x y (ending k h joined) f = ending k h joined
-lines x y (readOut k h) f = absurd (false≢true f)
+lines : {single : Bool} {n : ℕ} {x : Activity} {c : Connection} {d : Direction} {q : Fifo} {atn ack : Bool} {w : Noted} (i j : Bool)
+    → Shape single n x c d q atn ack w → isConnected c ≡ true → Shape single n x c d q i j w
+lines i j (idle e o h apart) f = absurd (false≢true f)
+lines i j (idle e o h joined) f = idle e o h joined
+lines i j (selects k o h) f = absurd (false≢true f)
+lines i j (waits k h) f = absurd (false≢true f)
+lines i j (selectsAndTransfers k h) f = selectsAndTransfers k h
+lines i j (transfersInfo h e) f = transfersInfo h e
+lines i j (ending k h apart) f = absurd (false≢true f)
+lines i j (ending k h joined) f = ending k h joined
+lines i j (readOut k h) f = absurd (false≢true f)
 
 module _ (s : State) (n : Numbered s) where
-  abort : {p : Pending} {r : Running} {c : Connection} {d : Direction} {q : Fifo} {atn ack : Bool} {w : Noted}
-      → Whole q → Shape (s .transfer .single) (s .registers .count) p r c d q atn ack w → isEnding p ≡ false → either (isRunning r) (isEnding p) ≡ true
-      → Good (aborted (being p r c d q atn ack w s))
-  unfolding aborted either
-  abort u (idle e o h l) f b = clash b e
-  abort u (selects k o h) f b = by-case Good _ (λ e. absurd (false≢true e)) (λ e. raised 0x22 _ n u apart (none h))
-  abort u (waits k h) f b = by-case Good _ (λ e. absurd (false≢true e)) (λ e. raised 0x22 _ n u apart h)
-  abort u (selectsAndTransfers k h) f b =
-      by-case Good _ (λ e. ended _ _ n u joined (select-and-transfer k) h) (λ e. absurd (true≢false e))
-  abort u (transfersInfo h x) f b = by-case Good _ (λ e. ended _ _ n u joined transfer-info h) (λ e. absurd (true≢false e))
-  abort u (ending k h l) f b = absurd (true≢false f)
-  abort u (readOut k h) f b = absurd (true≢false f)
+  abort : {x : Activity} {c : Connection} {d : Direction} {q : Fifo} {atn ack : Bool} {w : Noted}
+      → Whole q → Shape (s .transfer .single) (s .registers .count) x c d q atn ack w → goesOn x ≡ true
+      → Good (aborted (being x c d q atn ack w s))
+  unfolding aborted
+  abort u (idle unasked o h l) f = absurd (false≢true f)
+  abort u (idle told o h l) f = absurd (false≢true f)
+  abort u (selects k o h) f = by-case Good _ (λ e. absurd (false≢true e)) (λ e. raised 0x22 _ n u apart (none h))
+  abort u (waits k h) f = by-case Good _ (λ e. absurd (false≢true e)) (λ e. raised 0x22 _ n u apart h)
+  abort u (selectsAndTransfers k h) f =
+      by-case Good _ (λ e. ended _ _ n u joined refl (select-and-transfer k) h) (λ e. absurd (true≢false e))
+  abort u (transfersInfo h x) f = by-case Good _ (λ e. ended _ _ n u joined refl transfer-info h) (λ e. absurd (true≢false e))
+  abort u (ending k h l) f = absurd (false≢true f)
+  abort u (readOut k h) f = absurd (false≢true f)
 
-  select : (x : Running) → Selects x
-      → {p : Pending} {r : Running} {c : Connection} {d : Direction} {q : Fifo} {atn ack : Bool} (w : Noted)
-      → Whole q → Rest p r c d q atn ack → isDisconnected c ≡ true → Good (selecting x (being p r c d q atn ack w s))
+  select : (y : Command) → Selects y
+      → {x : Activity} {c : Connection} {d : Direction} {q : Fifo} {atn ack : Bool} (w : Noted)
+      → Whole q → Rest x c d q atn ack → isDisconnected c ≡ true → Good (selecting y (being x c d q atn ack w s))
   unfolding selecting
   select x k w u (rest o h apart) e = so _ n u (selects k o h)
   select x k w u (rest o h joined) e = absurd (false≢true e)
 
-  begin : (x : Running) → SelectsAndTransfers x
-      → {p : Pending} {r : Running} {c : Connection} {d : Direction} {q : Fifo} {atn ack : Bool} (w : Noted)
-      → Whole q → Rest p r c d q atn ack → Good (selectAndTransferBegun x (being p r c d q atn ack w s))
+  begin : (y : Command) → SelectsAndTransfers y
+      → {x : Activity} {c : Connection} {d : Direction} {q : Fifo} {atn ack : Bool} (w : Noted)
+      → Whole q → Rest x c d q atn ack → Good (selectAndTransferBegun y (being x c d q atn ack w s))
   unfolding selectAndTransferBegun resumed selecting fromDisconnected loaded isEmpty
   begin x k w u (rest o h apart) =
       by-case Good _ (λ e. absurd (false≢true e)) (λ e. so _ n (keeps-bytes .begins-whole) (selects (transfers-selects k) refl refl))
   begin x k w u (rest o h joined) =
       by-case Good _
       (λ e.
-      by-pick Good _ (ended 0x16 _ n (keeps-bytes .begins-whole) joined (select-and-transfer k) (unfixed refl))
+      by-pick Good _ (ended 0x16 _ n (keeps-bytes .begins-whole) joined refl (select-and-transfer k) (unfixed refl))
       (so _ n (keeps-bytes .begins-whole) (selectsAndTransfers k (unfixed refl))))
       (λ e. absurd (true≢false e))
 
-  inform : (single : Bool) {p : Pending} {r : Running} {c : Connection} {d : Direction} {q : Fifo} {atn ack : Bool} (w : Noted)
-      → Whole q → Rest p r c d q atn ack → isConnected c ≡ true → Good (transferInfoBegun single (being p r c d q atn ack w s))
+  inform : (single : Bool) {x : Activity} {c : Connection} {d : Direction} {q : Fifo} {atn ack : Bool} (w : Noted)
+      → Whole q → Rest x c d q atn ack → isConnected c ≡ true → Good (transferInfoBegun single (being x c d q atn ack w s))
   unfolding transferInfoBegun loadedForTransferInfo isEmpty
   inform single w u (rest o h apart) e = absurd (false≢true e)
   inform single w u (rest o h joined) e =
@@ -187,35 +135,28 @@ unfolding both
 refused true y e h = clash h e
 refused false y e h = refl
 
-unlisted : (k : ℕ) → eqb k 0x00 ≡ false → eqb k 0x01 ≡ false → eqb k 0x02 ≡ false → eqb k 0x03 ≡ false → eqb k 0x04 ≡ false
-    → eqb k 0x06 ≡ false → eqb k 0x07 ≡ false → eqb k 0x08 ≡ false → eqb k 0x09 ≡ false → eqb k 0x0F ≡ false → isListed k ≡ false
-unfolding isListed either
-unlisted k n0 n1 n2 n3 n4 n6 n7 n8 n9 n15 = rw (n0, n1, n2, n3, n4, n6, n7, n8, n9, n15)
-
 -- 40h is raised where no command runs
 forty-shape : (s : State) → Numbered s → (b : ℕ)
-    → {p : Pending} {r : Running} {c : Connection} {d : Direction} {q : Fifo} {atn ack : Bool} (w : Noted)
-    → Whole q → Rest p r c d q atn ack → Good (interrupt 0x40 (accepted b (being p r c d q atn ack w s)))
+    → {x : Activity} {c : Connection} {d : Direction} {q : Fifo} {atn ack : Bool} (w : Noted)
+    → Whole q → Rest x c d q atn ack → Good (interrupt 0x40 (accepted b (being x c d q atn ack w s)))
 unfolding accepted
-forty-shape s n b w u (rest o h l) = so _ n u (idle refl o h l)
+forty-shape s n b w u (rest o h l) = so _ n u (idle told o h l)
 
 module _ (s : State) (n : Numbered s) (k : ℕ) (single : Bool) where
-  carried-out : {p : Pending} {r : Running} {a : Connection} {d : Direction} {q : Fifo} {atn ack : Bool} {w : Noted}
-      → Whole q → Shape (s .transfer .single) (s .registers .count) p r a d q atn ack w → isInterrupt p ≡ false → isPlace (entryOf k .place) a ≡ true
-      → (isTwo (entryOf k .level) ≡ true → either (isRunning r) (isEnding p) ≡ false)
-      → (eqb k 0x01 ≡ true → both (either (isRunning r) (isEnding p)) (not (isEnding p)) ≡ true)
+  carried-out : {x : Activity} {a : Connection} {d : Direction} {q : Fifo} {atn ack : Bool} {w : Noted}
+      → Whole q → Shape (s .transfer .single) (s .registers .count) x a d q atn ack w → isInterrupt x ≡ false → isPlace (entryOf k .place) a ≡ true
+      → (isTwo (entryOf k .level) ≡ true → isRunning x ≡ false)
+      → (eqb k 0x01 ≡ true → goesOn x ≡ true)
       → eqb k 0x00 ≡ false
-      → Good (carriedOut k single (being p r a d q atn ack w s))
+      → Good (carriedOut k single (being x a d q atn ack w s))
   unfolding carriedOut disconnected entryOf table isEmpty
-  carried-out {p = p} {r = r} {a = a} {q = q} {atn = atn} {ack = ack} {w = w} u g i l calm ready n0 =
+  carried-out {a = a} {q = q} {atn = atn} {ack = ack} {w = w} u g i l calm ready n0 =
       by-case Good _
-      (λ e.
-      let x = ready e in
-      abort s n u g (not-true (isEnding p) (both-second _ _ x)) (both-first _ (not (isEnding p)) x))
+      (λ e. abort s n u g (ready e))
       λ n1.
       by-case Good _ (λ e. so _ n u (lines true ack g (placed k 0x02 a e l))) λ n2.
       by-case Good _ (λ e. so _ n u (lines atn false g (placed k 0x03 a e l))) λ n3.
-      by-case Good _ (λ e. so _ n (keeps-bytes .begins-whole) (idle refl refl refl apart)) λ n4.
+      by-case Good _ (λ e. so _ n (keeps-bytes .begins-whole) (idle unasked refl refl apart)) λ n4.
       by-case Good _
       (λ e. select s n SelectWithAtn six w u (resting g i (calm (levelled k 0x06 e refl))) (placed k 0x06 a e l))
       λ n6.
@@ -238,14 +179,14 @@ module _ (b : ℕ) (s : State) (g : Good s) where
   unfolding reset ownIdentity isEmpty
   reset-kept =
       so _ (record { cdb-long = refl; count-below = omega arith; identity-below = omega arith }) (keeps-bytes .begins-whole)
-      (idle refl refl refl apart)
+      (idle told refl refl apart)
 
   calm : isRefusedBusy code s ≡ false → isTwo (entryOf code .level) ≡ true
-      → either (isRunning (s .transfer .running)) (isEnding (s .status .pending)) ≡ false
+      → isRunning (s .activity) ≡ false
   unfolding isRefusedBusy busy either
   calm f t = refused _ (either (isTwo (entryOf code .level)) (not (isValid code s))) f (rw t)
 
-  forty : isInterrupt (s .status .pending) ≡ false → isRefusedBusy code s ≡ false → isValid code s ≡ false
+  forty : isInterrupt (s .activity) ≡ false → isRefusedBusy code s ≡ false → isValid code s ≡ false
       → Good (interrupt 0x40 (accepted b s))
   unfolding isRefusedBusy busy accepted
   forty i f v =
@@ -254,8 +195,8 @@ module _ (b : ℕ) (s : State) (g : Good s) where
       (refused _ (either (isTwo (entryOf code .level)) (not (isValid code s))) f (rw v (either-last (isTwo (entryOf code .level))))))
 
   ready : isValid code s ≡ true → eqb code 0x01 ≡ true
-      → both (either (isRunning (s .transfer .running)) (isEnding (s .status .pending))) (not (isEnding (s .status .pending))) ≡ true
-  unfolding isValid isReady busy
+      → goesOn (s .activity) ≡ true
+  unfolding isValid isReady
   ready v e = sym (picked _ _ _ e) ∙ both-second (isPlace (entryOf code .place) (s .wire .connection)) _ v
 
   pub commanded-kept : Fine (commanded b s)

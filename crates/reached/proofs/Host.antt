@@ -9,28 +9,27 @@ use native.Mathlib.Omega.{arith}
 use lib.Dec.{ltb}
 use lib.ListN.{length-set}
 use borrow.Author.Tests.{not-true, ltb-true}
-use Rattle.chip.specs.Choice.{pick, both, either}
-use Rattle.chip.specs.State.{setPending, setRegisters}
+use Rattle.chip.specs.Choice.{pick, both}
+use Rattle.chip.specs.State.{setActivity, setRegisters}
 use Rattle.chip.specs.Fifo.{isEmpty, hasRoom, pop, push}
 use Rattle.chip.specs.Fifo as F
 use Rattle.chip.specs.Count.{left, dbr}
-use Rattle.chip.specs.Interrupts.{isEnding, settledBy, settled, withoutInterrupt}
-use Rattle.chip.specs.Running.{isRunning}
+use Rattle.chip.specs.Interrupts.{settledBy, settled}
+use Rattle.chip.specs.Activity.{isRunning, withoutInterrupt}
 use Rattle.chip.specs.Registers.{highWritten, middleWritten, lowWritten, stored, dataReadBy, dataRead, dataWrittenBy, dataWritten, Moved, goOn, andThen, stopped, blockRead, blockWritten, storedIn}
 use Rattle.chip.specs.declared.Registers.{Registers}
 use Rattle.chip.specs.declared.State.{State}
 use Rattle.chip.specs.declared.Answer.{Answer}
 use Rattle.chip.specs.declared.Answer.the-variants.{Done, Held, OutOfPlace, BadNumber, Blind, CommandIgnored, ReselectionIgnored, NoDataNow, Reported}
 use Rattle.chip.specs.declared.Fifo.{Fifo}
-use Rattle.chip.specs.declared.Pending.{Pending}
-use Rattle.chip.specs.declared.Pending.the-variants.{Nothing, Interrupt, Ending, ReadOut}
-use Rattle.chip.specs.declared.Running.{Running}
+use Rattle.chip.specs.declared.Activity.{Activity}
+use Rattle.chip.specs.declared.Command.{Command}
 use Rattle.chip.specs.declared.Connection.{Connection}
 use Rattle.chip.specs.declared.Direction.{Direction}
 use Rattle.chip.specs.declared.Direction.the-variants.{Unfixed, In, Out}
 use Rattle.chip.specs.declared.Noted.{Noted}
-use Rattle.chip.proofs.Cases.{by-pick, by-case, both-first, either-first}
-use Rattle.reached.specs.Sound.{isUnread, outgoing, none, out, Shape, idle, selects, waits, selectsAndTransfers, transfersInfo, ending, readOut}
+use Rattle.chip.proofs.Cases.{by-pick, by-case, both-first}
+use Rattle.reached.specs.Sound.{isUnread, Resting, unasked, told, outgoing, none, out, Shape, idle, selects, waits, selectsAndTransfers, transfersInfo, ending, readOut}
 use Rattle.chip.specs.Fifo.{Whole}
 use Rattle.chip.proofs.FifoLaws.{keeps-bytes, pop-waits, push-waits}
 use Rattle.reached.proofs.Shapes.{Numbered, Good, so, Fine, being, clash, pop-way, raised, selects-and-transfers-run}
@@ -44,8 +43,8 @@ still In q x h e = rw e
 still Out q x h e = h
 
 module _ (s : State) (n : Numbered s) where
-  settles : {p : Pending} {r : Running} {c : Connection} {d : Direction} {q : Fifo} {atn ack : Bool} {w : Noted}
-      → Whole q → isEmpty q ≡ false → Shape (s .transfer .single) (s .registers .count) p r c d q atn ack w → Good (settled (being p r c d (pop q) atn ack w s))
+  settles : {x : Activity} {c : Connection} {d : Direction} {q : Fifo} {atn ack : Bool} {w : Noted}
+      → Whole q → isEmpty q ≡ false → Shape (s .transfer .single) (s .registers .count) x c d q atn ack w → Good (settled (being x c d (pop q) atn ack w s))
   unfolding settled settledBy
   settles u f (idle e o h l) = clash h f
   settles u f (selects k o h) = clash h f
@@ -63,18 +62,18 @@ module _ (s : State) (n : Numbered s) where
       by-case Good _ (λ e. so _ n (keeps-bytes .pop-whole q u) (waits k (none e)))
       (λ e. so _ n (keeps-bytes .pop-whole q u) (readOut k (still d q (pop q) h e)))
 
-  data-read : (d : Direction) {p : Pending} {r : Running} {c : Connection} {q : Fifo} {atn ack : Bool} {w : Noted}
-      → Whole q → Shape (s .transfer .single) (s .registers .count) p r c d q atn ack w → Fine (dataReadBy d (being p r c d q atn ack w s))
+  data-read : (d : Direction) {x : Activity} {c : Connection} {q : Fifo} {atn ack : Bool} {w : Noted}
+      → Whole q → Shape (s .transfer .single) (s .registers .count) x c d q atn ack w → Fine (dataReadBy d (being x c d q atn ack w s))
   unfolding dbr
   data-read Unfixed u g = so _ n u g
   data-read In {q = q} u g = by-case Fine _ (λ e. settles u (not-true (isEmpty q) e) g) (λ e. so _ n u g)
   data-read Out u g = so _ n u g
 
   -- a byte more, going out
-  more : (b : ℕ) {p : Pending} {r : Running} {c : Connection} {q : Fifo} {atn ack : Bool} {w : Noted}
+  more : (b : ℕ) {x : Activity} {c : Connection} {q : Fifo} {atn ack : Bool} {w : Noted}
       → F.waits (push b q) ≤ pick (s .transfer .single) 1 (s .registers .count)
-      → Shape (s .transfer .single) (s .registers .count) p r c Out q atn ack w
-      → Shape (s .transfer .single) (s .registers .count) p r c Out (push b q) atn ack w
+      → Shape (s .transfer .single) (s .registers .count) x c Out q atn ack w
+      → Shape (s .transfer .single) (s .registers .count) x c Out (push b q) atn ack w
   unfolding both
   more b v (idle e o h l) = absurd (true≢false o)
   more b v (selects k o h) = absurd (true≢false o)
@@ -90,8 +89,8 @@ module _ (s : State) (n : Numbered s) where
       let m = pick (s .transfer .single) 1 (s .registers .count) in
       omega (arith, ltb-true (F.waits q) m (both-first _ (hasRoom q) e), push-waits b q)
 
-  data-written : (d : Direction) (b : ℕ) {p : Pending} {r : Running} {c : Connection} {q : Fifo} {atn ack : Bool} {w : Noted}
-      → Whole q → Shape (s .transfer .single) (s .registers .count) p r c d q atn ack w → Fine (dataWrittenBy d b (being p r c d q atn ack w s))
+  data-written : (d : Direction) (b : ℕ) {x : Activity} {c : Connection} {q : Fifo} {atn ack : Bool} {w : Noted}
+      → Whole q → Shape (s .transfer .single) (s .registers .count) x c d q atn ack w → Fine (dataWrittenBy d b (being x c d q atn ack w s))
   unfolding dbr left
   data-written Unfixed b u g = so _ n u g
   data-written In b u g = so _ n u g
@@ -133,17 +132,17 @@ block-written-kept (b ∷ l) s g =
 -- ---- the other registers
 
 -- where nothing is under way the count may be anything
-recount : {single : Bool} {n m : ℕ} {p : Pending} {r : Running} {c : Connection} {d : Direction} {q : Fifo} {atn ack : Bool} {w : Noted}
-    → Shape single n p r c d q atn ack w → either (isRunning r) (isEnding p) ≡ false → Shape single m p r c d q atn ack w
+recount : {single : Bool} {n m : ℕ} {x : Activity} {c : Connection} {d : Direction} {q : Fifo} {atn ack : Bool} {w : Noted}
+    → Shape single n x c d q atn ack w → isRunning x ≡ false → Shape single m x c d q atn ack w
 recount (idle e o h l) b = idle e o h l
 recount (selects k o h) b = selects k o h
-recount (waits k h) b = clash (selects-and-transfers-run k) (either-first _ _ b)
-recount (selectsAndTransfers k h) b = clash (selects-and-transfers-run k) (either-first _ _ b)
-recount (transfersInfo h e) b = absurd (true≢false (either-first _ _ b))
+recount (waits k h) b = clash (selects-and-transfers-run k) b
+recount (selectsAndTransfers k h) b = clash (selects-and-transfers-run k) b
+recount (transfersInfo h e) b = absurd (true≢false b)
 recount (ending k h l) b = ending k h l
 recount (readOut k h) b = readOut k h
 
-pub stored-kept : (a b : ℕ) (s : State) → b < 256 → either (isRunning (s .transfer .running)) (isEnding (s .status .pending)) ≡ false
+pub stored-kept : (a b : ℕ) (s : State) → b < 256 → isRunning (s .activity) ≡ false
     → Good s → Good (stored a b s)
 unfolding stored storedIn highWritten middleWritten lowWritten
 stored-kept a b s small calm g =
@@ -168,15 +167,13 @@ stored-kept a b s small calm g =
     Kept : Registers → Type 0
     Kept r = Good (setRegisters r s)
 
-quieter : (p : Pending) → isEnding p ≡ false → isEnding (withoutInterrupt p) ≡ false
-quieter Nothing e = e
-quieter Interrupt e = e
-quieter (Ending c) e = e
-quieter ReadOut e = e
+quieter : {x : Activity} → Resting x → Resting (withoutInterrupt x)
+quieter unasked = unasked
+quieter told = unasked
 
-read-shape : {single : Bool} {n : ℕ} {p : Pending} {r : Running} {c : Connection} {d : Direction} {q : Fifo} {atn ack : Bool} {w : Noted}
-    → Shape single n p r c d q atn ack w → Shape single n (withoutInterrupt p) r c d q atn ack w
-read-shape {p = p} (idle e o h l) = idle (quieter p e) o h l
+read-shape : {single : Bool} {n : ℕ} {x : Activity} {c : Connection} {d : Direction} {q : Fifo} {atn ack : Bool} {w : Noted}
+    → Shape single n x c d q atn ack w → Shape single n (withoutInterrupt x) c d q atn ack w
+read-shape (idle e o h l) = idle (quieter e) o h l
 read-shape (selects k o h) = selects k o h
 read-shape (waits k h) = waits k h
 read-shape (selectsAndTransfers k h) = selectsAndTransfers k h
@@ -184,5 +181,5 @@ read-shape (transfersInfo h e) = transfersInfo h e
 read-shape (ending k h l) = ending k h l
 read-shape (readOut k h) = readOut k h
 
-pub status-read-kept : (s : State) → Good s → Good (setPending (withoutInterrupt (s .status .pending)) s)
+pub status-read-kept : (s : State) → Good s → Good (setActivity (withoutInterrupt (s .activity)) s)
 status-read-kept s g = so _ (g .numbers) (g .whole) (read-shape (g .shape))

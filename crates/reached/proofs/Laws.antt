@@ -11,8 +11,8 @@ use Prim.Native.Nat.{ℕ, _<_}
 use borrow.Author.Tests.{ltb-true}
 use lib.Dec.{eqb}
 use Rattle.chip.specs.Choice.{either}
-use Rattle.chip.specs.Interrupts.{isEnding, busy}
-use Rattle.chip.specs.Running.{isRunning}
+use Rattle.chip.specs.Interrupts.{busy}
+use Rattle.chip.specs.Activity.{isRunning}
 use Rattle.chip.specs.State.{fresh}
 use Rattle.chip.specs.Fifo.{isEmpty}
 use Rattle.chip.specs.Phases.{phaseOf}
@@ -22,7 +22,7 @@ use Rattle.chip.specs.Image.{imageOf, isImage}
 use Rattle.chip.specs.declared.State.{State}
 use Rattle.chip.proofs.ImageLaws.{fresh-ok, image-valid}
 use Rattle.chip.proofs.Cases.{by-pick, by-case, both-second, either-rest}
-use Rattle.reached.specs.Sound.{apart, idle, Sound, Kept}
+use Rattle.reached.specs.Sound.{unasked, apart, idle, Sound, Kept}
 use Rattle.reached.proofs.Shapes.{Good, so, Fine}
 use Rattle.reached.proofs.Requests.{request-kept}
 use Rattle.reached.proofs.Events.{time-kept, answer-kept, reselection-kept, free-kept}
@@ -38,7 +38,7 @@ neither t u e f = rw (e, f)
 module _ (s : State) (g : Good s) where
   -- 00 to 17h are not Blind only where no command runs
   calm : (w : Bool) (a : ℕ) → isBlind w a s ≡ false → eqb a 0x18 ≡ false → eqb a 0x19 ≡ false
-      → either (isRunning (s .transfer .running)) (isEnding (s .status .pending)) ≡ false
+      → isRunning (s .activity) ≡ false
   unfolding isBlind busy
   calm w a h m n = refused _ _ (either-rest _ _ (either-rest _ _ h)) (neither (eqb a 0x18) (eqb a 0x19) m n)
 
@@ -106,7 +106,7 @@ kept c s x = of-parts (step-kept s (by-parts x) c)
 
 pub fresh-sound : Sound fresh
 unfolding isEmpty
-fresh-sound = record { ok = fresh-ok; shape = idle refl refl refl apart }
+fresh-sound = record { ok = fresh-ok; shape = idle unasked refl refl apart }
 
 run-sound : (l : List Call) (s : State) → Sound s → Sound (run step l s)
 unfolding run

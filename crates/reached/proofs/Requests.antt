@@ -10,7 +10,8 @@ use Rattle.chip.specs.Choice.{pick}
 use Rattle.chip.specs.Phases.{phaseNumber, comesIn, isNoted}
 use Rattle.chip.specs.Fifo.{isEmpty, pop, push}
 use Rattle.chip.specs.Count.{lowered}
-use Rattle.chip.specs.Interrupts.{outgoingDropped, withoutOutgoing, closed, isEnding}
+use Rattle.chip.specs.Interrupts.{outgoingDropped, withoutOutgoing, closed, isOutgoing}
+use Rattle.chip.specs.Activity.{isEnding}
 use Rattle.chip.specs.TransferInfo.{halted, unlessHalted, parityNoted, takenIn, transferInfoSent, transferInfoTaken, transferInfoOffered, transferInfoOver, transferInfoRequest}
 use Rattle.chip.specs.SelectAndTransfer.{unexpected, sendIdentify, sendCommand, sendData, takeData, dataOut, dataIn, unlessNoneLeft, takeStatus, takeSave, takeDisconnect, takeMessage, bodyRequest, lateRequest, takeIdentify, completed, takeComplete, requestAt, selectAndTransferRequest}
 use Rattle.chip.specs.Commands.{wayOf}
@@ -20,9 +21,9 @@ use Rattle.chip.specs.declared.Reply.{Reply}
 use Rattle.chip.specs.declared.Fifo.{Fifo}
 use Rattle.chip.specs.declared.Answer.{Answer}
 use Rattle.chip.specs.declared.Answer.the-variants.{Done, Held, OutOfPlace, BadNumber, Blind, CommandIgnored, ReselectionIgnored, NoDataNow, Reported}
-use Rattle.chip.specs.declared.Pending.{Pending}
-use Rattle.chip.specs.declared.Pending.the-variants.{Nothing}
-use Rattle.chip.specs.declared.Running.{Running}
+use Rattle.chip.specs.declared.Activity.{Activity}
+use Rattle.chip.specs.declared.Activity.the-variants.{Runs}
+use Rattle.chip.specs.declared.Command.{Command}
 use Rattle.chip.specs.declared.Connection.{Connection}
 use Rattle.chip.specs.declared.Connection.the-variants.{Connected}
 use Rattle.chip.specs.declared.Direction.{Direction}
@@ -34,7 +35,7 @@ use Rattle.chip.specs.declared.Noted.the-variants.{NoPhase, Was}
 use Rattle.chip.specs.declared.Stage.{Stage}
 use Rattle.chip.specs.declared.Stage.the-variants.{SendIdentify, SendCommand, Body, AfterData, Disconnecting, Reselected, AfterStatus, Elsewhere}
 use Rattle.chip.proofs.Cases.{by-pick, by-case, both-first}
-use Rattle.reached.specs.Sound.{apart, joined, Way, unfixed, incoming, outgoing, none, Shape, idle, selects, waits, selectsAndTransfers, transfersInfo, ending, readOut, SelectsAndTransfers, Moves, select-and-transfer, transfer-info}
+use Rattle.reached.specs.Sound.{Resting, unasked, told, apart, joined, Way, unfixed, incoming, outgoing, none, Shape, idle, selects, waits, selectsAndTransfers, transfersInfo, ending, readOut, SelectsAndTransfers, Moves, select-and-transfer, transfer-info}
 use Rattle.reached.proofs.Fifos.{dropped-whole}
 use Rattle.chip.specs.Fifo.{Whole}
 use Rattle.chip.proofs.FifoLaws.{empty-waits, keeps-bytes}
@@ -74,18 +75,18 @@ way-in (Was x) p e c =
 
 -- ---- connected, a command runs, nothing is pending
 
-module _ (s : State) (r : Running) (d : Direction) (q : Fifo) (atn ack : Bool) (w : Noted)
+module _ (s : State) (r : Command) (d : Direction) (q : Fifo) (atn ack : Bool) (w : Noted)
     (n : Numbered s) (u : Whole q) (run : Moves r) (way : Way (s .transfer .single) (s .registers .count) d q)
-    (on : (o : Bool) (m : ℕ) (x : Fifo) (i j : Bool) → Way o m d x → Shape o m Nothing r Connected d x i j w) where
+    (on : (o : Bool) (m : ℕ) (x : Fifo) (i j : Bool) → Way o m d x → Shape o m (Runs r) Connected d x i j w) where
   abbrev now : State
-  now = being Nothing r Connected d q atn ack w s
+  now = being (Runs r) Connected d q atn ack w s
 
   same : Good now
   same = so _ n u (on _ _ q atn ack way)
 
   halts : Fine (halted now)
   unfolding halted
-  halts = unless-int _ _ same (ended 0x43 _ n u joined run way)
+  halts = (ended 0x43 _ n u joined refl run way)
 
   unless-halted : (bad : Bool) (x : Reply) → Fine x → Fine (unlessHalted bad now x)
   unfolding unlessHalted
@@ -99,7 +100,7 @@ module _ (s : State) (r : Running) (d : Direction) (q : Fifo) (atn ack : Bool) (
   unfolding transferInfoTaken takenIn parityNoted lowered
   info-taken p b bad e =
       by-pick Fine _
-      (unless-int _ _ same (ended 0x20 _ (taken b bad) (keeps-bytes .push-whole q b u) joined run (in-way e)))
+      ((ended 0x20 _ (taken b bad) (keeps-bytes .push-whole q b u) joined refl run (in-way e)))
       (so _ (taken b bad) (keeps-bytes .push-whole q b u) (on _ _ (push b q) atn ack (in-way e)))
 
   info-in : (p : Phase) (b : ℕ) (bad : Bool) → d ≡ In → Fine (transferInfoOffered p b bad now)
@@ -112,7 +113,7 @@ module _ (s : State) (r : Running) (d : Direction) (q : Fifo) (atn ack : Bool) (
 
   info-over : (p : Phase) → Fine (transferInfoOver p now)
   unfolding transferInfoOver
-  info-over p = unless-int _ _ same (ended _ _ n u joined run way)
+  info-over p = (ended _ _ n u joined refl run way)
 
   transfer-info-request : (p : Phase) (b : ℕ) (bad : Bool) → d ≡ wayOf w → Fine (transferInfoRequest p b bad now)
   unfolding transferInfoRequest
@@ -126,7 +127,7 @@ module _ (s : State) (r : Running) (d : Direction) (q : Fifo) (atn ack : Bool) (
 
   unexpected-kept : (p : Phase) → Fine (unexpected p now)
   unfolding unexpected
-  unexpected-kept p = unless-int _ _ same (ended _ _ n u joined run way)
+  unexpected-kept p = (ended _ _ n u joined refl run way)
 
   module _ (tr : SelectsAndTransfers r) where
     send-data : Fine (sendData now)
@@ -162,7 +163,7 @@ module _ (s : State) (r : Running) (d : Direction) (q : Fifo) (atn ack : Bool) (
     take-message : (b : ℕ) (bad : Bool) → Fine (takeMessage b bad now)
     unfolding takeMessage takeSave takeDisconnect parityNoted
     take-message b bad =
-        by-pick Fine _ (unless-halted bad _ (unless-int _ _ same (ended 0x21 _ n u joined run way)))
+        by-pick Fine _ (unless-halted bad _ ((ended 0x21 _ n u joined refl run way)))
         (by-pick Fine _ (unless-halted bad _ (so _ n u (on _ _ q atn ack way))) (unexpected-kept MessageIn))
 
     body : (p : Phase) (b : ℕ) (bad : Bool) → Fine (bodyRequest p b bad now)
@@ -196,7 +197,7 @@ module _ (s : State) (r : Running) (d : Direction) (q : Fifo) (atn ack : Bool) (
     by-stage Disconnecting p b bad = unexpected-kept p
     by-stage Reselected p b bad = by-pick Fine _ (unless-halted bad _ (so _ n u (on _ _ q atn ack way))) (unexpected-kept p)
     by-stage AfterStatus p b bad =
-        by-pick Fine _ (unless-halted bad _ (unless-int _ _ same (ended 0x16 _ n u joined run way))) (unexpected-kept p)
+        by-pick Fine _ (unless-halted bad _ ((ended 0x16 _ n u joined refl run way))) (unexpected-kept p)
     by-stage Elsewhere p b bad = unexpected-kept p
 
     select-and-transfer-request : (p : Phase) (b : ℕ) (bad : Bool) → Fine (selectAndTransferRequest p b bad now)
@@ -217,15 +218,21 @@ remembers NoDataNow p x g = g
 remembers Reported p x g = so _ (g .numbers) (g .whole) (g .shape)
 
 module _ (s : State) (n : Numbered s) (y : Phase) (b : ℕ) (bad : Bool) where
-  by-shape : {p : Pending} {r : Running} {c : Connection} {d : Direction} {q : Fifo} {atn ack : Bool} {w : Noted}
-      → isConnected c ≡ true → isEnding p ≡ false → Whole q → Shape (s .transfer .single) (s .registers .count) p r c d q atn ack w
-      → Fine (requestedRunning y b bad (being p r c d q atn ack w s))
+  at-rest : {x : Activity} (d : Direction) (q : Fifo) (atn ack : Bool) (w : Noted)
+      → Whole q → Resting x → isOutgoing d ≡ false → isEmpty q ≡ true → Fine (idleRequest y (being x Connected d q atn ack w s))
+  unfolding idleRequest
+  at-rest d q atn ack w u e o h =
+      by-pick Fine _ (so _ n u (idle e o h joined)) (unless-int _ _ (so _ n u (idle e o h joined)) (raised _ _ n u joined (none h)))
+
+  by-shape : {x : Activity} {c : Connection} {d : Direction} {q : Fifo} {atn ack : Bool} {w : Noted}
+      → isConnected c ≡ true → isEnding x ≡ false → Whole q → Shape (s .transfer .single) (s .registers .count) x c d q atn ack w
+      → Fine (requestedRunning y b bad (being x c d q atn ack w s))
   unfolding requestedRunning idleRequest
   by-shape x f u (idle e o h apart) = absurd (false≢true x)
-  by-shape x f u (idle e o h joined) =
-      second _ _
-      (second _ _
-      (by-pick Fine _ (so _ n u (idle e o h joined)) (unless-int _ _ (so _ n u (idle e o h joined)) (raised _ _ n u joined (none h)))))
+  by-shape {d = d} {q = q} {atn = atn} {ack = ack} {w = w} x f u (idle unasked o h joined) =
+      second _ _ (second _ _ (at-rest d q atn ack w u unasked o h))
+  by-shape {d = d} {q = q} {atn = atn} {ack = ack} {w = w} x f u (idle told o h joined) =
+      second _ _ (second _ _ (at-rest d q atn ack w u told o h))
   by-shape x f u (selects t o h) = absurd (false≢true x)
   by-shape x f u (waits t h) = absurd (false≢true x)
   by-shape x f u (selectsAndTransfers k h) =

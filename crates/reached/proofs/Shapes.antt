@@ -15,26 +15,27 @@ use Prim.Native.Nat.{ℕ, _<_, _≤_, _-_}
 use native.Mathlib.Omega.{arith}
 use lib.ListN.{length}
 use borrow.Author.Tests.{not-false}
-use Rattle.chip.specs.State.{setPending, setRunning, setConnection, setDirection, setFifo, setAtn, setAck, setReported}
+use Rattle.chip.specs.State.{setActivity, setConnection, setDirection, setFifo, setAtn, setAck, setReported}
 use Rattle.chip.specs.Choice.{pick, both}
 use Rattle.chip.specs.Fifo as F
 use Rattle.chip.specs.Fifo.{isEmpty, pop}
 use Rattle.chip.proofs.FifoLaws.{empty-waits, pop-waits, pop-one}
 use Rattle.chip.specs.Interrupts.{withoutOutgoing, closed, outgoingDropped, raise, bytesUnread, endingWith, unlessInterrupt}
-use Rattle.chip.specs.Running.{isRunning, isSelectAndTransfer}
+use Rattle.chip.specs.Activity.{isRunning, isSelectAndTransfer}
 use Rattle.chip.specs.declared.State.{State}
 use Rattle.chip.specs.declared.Reply.{Reply}
 use Rattle.chip.specs.declared.Fifo.{Fifo}
 use Rattle.chip.specs.declared.Identity.{Identity}
-use Rattle.chip.specs.declared.Pending.{Pending}
-use Rattle.chip.specs.declared.Running.{Running}
+use Rattle.chip.specs.declared.Activity.{Activity}
+use Rattle.chip.specs.declared.Activity.the-variants.{Runs}
+use Rattle.chip.specs.declared.Command.{Command}
 use Rattle.chip.specs.declared.Connection.{Connection}
 use Rattle.chip.specs.declared.Direction.{Direction}
 use Rattle.chip.specs.declared.Direction.the-variants.{Unfixed, In, Out}
 use Rattle.chip.specs.declared.Noted.{Noted}
 use Rattle.chip.proofs.Cases.{by-pick, by-case}
 use Rattle.chip.specs.Interrupts.{isOutgoing}
-use Rattle.reached.specs.Sound.{Placed, Way, unfixed, incoming, outgoing, Drained, none, out, isUnread, idle, ending, Shaped, SelectsAndTransfers, with-atn, without-atn, Moves, select-and-transfer, transfer-info, Selects, six, seven, eight, nine}
+use Rattle.reached.specs.Sound.{Placed, Way, unfixed, incoming, outgoing, Drained, none, out, isUnread, told, idle, ending, Shaped, SelectsAndTransfers, with-atn, without-atn, Moves, select-and-transfer, transfer-info, Selects, six, seven, eight, nine}
 use Rattle.reached.proofs.Fifos.{dropped-whole}
 use Rattle.chip.specs.Fifo.{Whole}
 
@@ -57,9 +58,9 @@ so s n u h = record { numbers = n; whole = u; shape = h }
 abbrev pub Fine : Reply → Type 0
 Fine r = Good (r .state)
 
-abbrev pub being : Pending → Running → Connection → Direction → Fifo → Bool → Bool → Noted → State → State
-being p r x d q atn ack w s =
-    setPending p (setRunning r (setConnection x (setDirection d (setFifo q (setAtn atn (setAck ack (setReported w s)))))))
+abbrev pub being : Activity → Connection → Direction → Fifo → Bool → Bool → Noted → State → State
+being x c d q atn ack w s =
+    setActivity x (setConnection c (setDirection d (setFifo q (setAtn atn (setAck ack (setReported w s))))))
 
 -- the side that a closed test chooses
 pub first : (a b : Reply) → Fine a → Fine (pick true a b)
@@ -125,31 +126,31 @@ closed-out Unfixed = refl
 closed-out In = refl
 closed-out Out = refl
 
-pub selects-and-transfers-run : {r : Running} → SelectsAndTransfers r → isRunning r ≡ true
+pub selects-and-transfers-run : {r : Command} → SelectsAndTransfers r → isRunning (Runs r) ≡ true
 selects-and-transfers-run with-atn = refl
 selects-and-transfers-run without-atn = refl
 
-pub moves-run : {r : Running} → Moves r → isRunning r ≡ true
+pub moves-run : {r : Command} → Moves r → isRunning (Runs r) ≡ true
 moves-run (select-and-transfer k) = selects-and-transfers-run k
 moves-run transfer-info = refl
 
-pub selects-run : {r : Running} → Selects r → isRunning r ≡ true
+pub selects-run : {r : Command} → Selects r → isRunning (Runs r) ≡ true
 selects-run six = refl
 selects-run seven = refl
 selects-run eight = refl
 selects-run nine = refl
 
-pub transfers-test : {r : Running} → SelectsAndTransfers r → isSelectAndTransfer r ≡ true
+pub transfers-test : {r : Command} → SelectsAndTransfers r → isSelectAndTransfer (Runs r) ≡ true
 transfers-test with-atn = refl
 transfers-test without-atn = refl
 
-pub selects-transfers : {r : Running} → Selects r → isSelectAndTransfer r ≡ true → SelectsAndTransfers r
+pub selects-transfers : {r : Command} → Selects r → isSelectAndTransfer (Runs r) ≡ true → SelectsAndTransfers r
 selects-transfers six e = absurd (false≢true e)
 selects-transfers seven e = absurd (false≢true e)
 selects-transfers eight e = with-atn
 selects-transfers nine e = without-atn
 
-pub transfers-selects : {r : Running} → SelectsAndTransfers r → Selects r
+pub transfers-selects : {r : Command} → SelectsAndTransfers r → Selects r
 transfers-selects with-atn = eight
 transfers-selects without-atn = nine
 
@@ -161,11 +162,11 @@ module _ (code : ℕ) (s : State) (n : Numbered s) (u : Whole (s .fifo))
   unfolding raise outgoingDropped
   raised h =
       let d = s .transfer .direction in
-      so _ n (dropped-whole d u) (idle refl (closed-out d) (dropped-empty d h) l)
+      so _ n (dropped-whole d u) (idle told (closed-out d) (dropped-empty d h) l)
 
-  pub ended : Moves (s .transfer .running) → Way (s .transfer .single) (s .registers .count) (s .transfer .direction) (s .fifo) → Good (endingWith code s)
+  pub ended : {r : Command} → s .activity ≡ Runs r → Moves r → Way (s .transfer .single) (s .registers .count) (s .transfer .direction) (s .fifo) → Good (endingWith code s)
   unfolding endingWith bytesUnread
-  ended r w = by-case Good _ (λ e. so _ n u (ending r e l)) (λ e. raised (way-drained w e))
+  ended a r w = by-case Good _ (λ e. so _ n u (rw a (ending r e l))) (λ e. raised (way-drained w e))
 
 pub unless-int : (s : State) (r : Reply) → Good s → Fine r → Fine (unlessInterrupt s r)
 unfolding unlessInterrupt

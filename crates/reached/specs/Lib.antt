@@ -1,4 +1,5 @@
 pub mod Sound
 pub mod Facts
 pub mod NeverBoth
+pub mod Before
 pub mod Wrong

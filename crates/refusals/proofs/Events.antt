@@ -28,14 +28,12 @@ module _ (n : ℕ) (s : State) where
   selection-time : Timely (selectionTime n s)
   unfolding selectionTime
   selection-time =
-      by-pick Timely _ (holds refl refl)
-      (by-pick Timely _ (passes refl (stands refl refl))
-      (by-pick Timely _ (passes refl timed-out) (passes refl (stands refl refl))))
+      by-pick Timely _ (passes refl (stands refl refl))
+      (by-pick Timely _ (passes refl timed-out) (passes refl (stands refl refl)))
 
   pub time-served : Served (time n) false s (passed n s)
   unfolding passed
-  time-served =
-      by-pick Timely _ (passes refl (stands refl refl)) (by-pick Timely _ selection-time (passes refl (stands refl refl)))
+  time-served = by-pick Timely _ selection-time (passes refl (stands refl refl))
 
 -- ---- Answer
 
@@ -51,9 +49,7 @@ module _ (s : State) where
   unfolding answeredSelecting
   answer-selecting =
       let h = answered-count s in
-      by-pick Answering _ (holds refl refl)
-      (by-pick Answering _ (passes refl (stands (h .shown) (h .beside)))
-      (unless-held (holds refl refl) (passes refl (then h (raise-count _ _)))))
+      by-pick Answering _ (passes refl (stands (h .shown) (h .beside))) (passes refl (then h (raise-count _ _)))
 
   pub answer-served : Served answer false s (answered s)
   unfolding answered
@@ -105,17 +101,17 @@ module _ (s : State) where
   to-wait : (t : State) → SameCount s t → Freeing (freeToWait s t)
   unfolding freeToWait
   to-wait t h =
-      by-pick Freeing _ (unless-held hold (passes refl (stands (h .shown) (h .beside)))) (passes refl (stands (h .shown) (h .beside)))
+      by-pick Freeing _ (passes refl (stands (h .shown) (h .beside))) (passes refl (stands (h .shown) (h .beside)))
 
   after-disconnect : (t : State) → SameCount s t → Freeing (freeAfterDisconnect s t)
   unfolding freeAfterDisconnect
-  after-disconnect t h = by-pick Freeing _ (unless-held hold (passes refl (then h (end-count _ _)))) (to-wait t h)
+  after-disconnect t h = by-pick Freeing _ (passes refl (then h (end-count _ _))) (to-wait t h)
 
   transfer-free : (t : State) → SameCount s t → Freeing (selectAndTransferFree s t)
   unfolding selectAndTransferFree
   transfer-free t h =
       by-pick Freeing _ (after-disconnect _ (stands (h .shown) (h .beside)))
-      (unless-held hold (passes refl (then h (end-count _ _))))
+      (passes refl (then h (end-count _ _)))
 
   idle-free : Freeing (idleFree s)
   unfolding idleFree
@@ -125,7 +121,7 @@ module _ (s : State) where
   unfolding freedRunning transferInfoFree
   free-running =
       by-pick Freeing _ (transfer-free (busFree s) (free-count s))
-      (by-pick Freeing _ (unless-held hold (passes refl (then (free-count s) (end-count _ _)))) idle-free)
+      (by-pick Freeing _ (passes refl (then (free-count s) (end-count _ _))) idle-free)
 
   pub free-served : Served free false s (freed s)
   unfolding freed

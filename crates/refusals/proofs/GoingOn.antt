@@ -13,7 +13,7 @@ use Rattle.chip.specs.Choice.{pick, both, either}
 use Rattle.chip.specs.Answers.{done}
 use Rattle.chip.specs.Lines.{codeOf}
 use Rattle.chip.specs.Interrupts.{busy}
-use Rattle.chip.specs.Running.{isRunning}
+use Rattle.chip.specs.Activity.{runningNumber, isRunning}
 use Rattle.chip.specs.Commands.{leftOut, table, entryOf, isTwo, reset, aborted, disconnected, selecting, carriedOut, accepted, isRefusedBusy, commanded}
 use Rattle.chip.specs.Registers.{isBlind, readAt, writtenAt, stepped, accessedAt, accessed}
 use Rattle.chip.specs.declared.State.{State}
@@ -82,17 +82,17 @@ carried-out c single s h n0 =
     or-else _ (stands refl refl) λ n15. absurd (none-of c h n0 n1 n2 n3 n4 n15)))
 
 pub record Goes (s : State) (q : Reply) : Type 0 where
-  pub so : q .state .transfer .running ≡ s .transfer .running → SameCount s (q .state)
+  pub so : runningNumber (q .state .activity) ≡ runningNumber (s .activity) → SameCount s (q .state)
 
 kept : {s : State} {q : Reply} → SameCount s (q .state) → Goes s q
 kept h = record { so = λ e. h }
 
 -- ---- in a state in which a command runs
 
-module _ (s : State) (runs : isRunning (s .transfer .running) ≡ true) where
+module _ (s : State) (runs : isRunning (s .activity) ≡ true) where
   is-busy : busy s ≡ true
-  unfolding busy either
-  is-busy = rw runs
+  unfolding busy
+  is-busy = runs
 
   level : (c : ℕ) → isRefusedBusy c s ≡ false → isTwo (entryOf c .level) ≡ false
   unfolding isRefusedBusy both
@@ -101,7 +101,7 @@ module _ (s : State) (runs : isRunning (s .transfer .running) ≡ true) where
   -- Reset ends the command
   reset-goes : (b : ℕ) → Goes s (done 0 (reset b s))
   unfolding reset
-  reset-goes b = record { so = λ e. absurd (false≢true (ap isRunning e ∙ runs)) }
+  reset-goes b = record { so = λ e. absurd (false≢true (ap (λ (n : ℕ). not (eqb n 0)) e ∙ runs)) }
 
   accepted-count : (b : ℕ) → SameCount s (accepted b s)
   unfolding accepted

@@ -11,7 +11,7 @@ use mathlib.Core.List.{List}
 use Prim.Native.Nat.{ℕ}
 use Rattle.chip.specs.Choice.{pick}
 use Rattle.chip.specs.Phases.{phaseOf}
-use Rattle.chip.specs.Running.{isRunning}
+use Rattle.chip.specs.Activity.{runningNumber, isRunning}
 use Rattle.chip.specs.Answers.{number}
 use Rattle.chip.specs.Registers.{Moved, pointerRead, pointerSet, auxiliaryRead, accessed}
 use Rattle.chip.specs.Calls.{Call, Outcome, pointer, auxiliary, register, block, time, answer, reselection, request, free, isGood, isSet, plain, carried, lentBy, step}
@@ -104,12 +104,12 @@ of-access : (m b : ℕ) (s : State) (P : State → Type 0) → P (accessed (isSe
 unfolding step carried
 of-access m b s P x y = by-pick (λ (o : Outcome). P (o .state)) _ x y
 
-going-on : (c : Call) (s : State) → isRequest c ≡ false → isRunning (s .transfer .running) ≡ true
-    → step c s .state .transfer .running ≡ s .transfer .running → SameCount s (step c s .state)
+going-on : (c : Call) (s : State) → isRequest c ≡ false → isRunning (s .activity) ≡ true
+    → runningNumber (step c s .state .activity) ≡ runningNumber (s .activity) → SameCount s (step c s .state)
 going-on (pointer m b) s n r e = step-right (pointer m b) s .count
 going-on auxiliary s n r e = step-right auxiliary s .count
 going-on (register m b) s n r e =
-    of-access m b s (λ t. t .transfer .running ≡ s .transfer .running → SameCount s t) (access-goes s r (isSet m) b .so)
+    of-access m b s (λ t. runningNumber (t .activity) ≡ runningNumber (s .activity) → SameCount s t) (access-goes s r (isSet m) b .so)
     (λ e. stands refl refl) e
 going-on (block m l) s n r e = step-right (block m l) s .count
 going-on (time u) s n r e = step-right (time u) s .count

@@ -8,14 +8,14 @@ use mathlib.Core.Path.{refl, ap}
 use mathlib.Core.Bool.{true, true≢false, false≢true}
 use mathlib.Core.List.{[], _∷_}
 use lib.Dec.{eqb}
-use Rattle.chip.specs.State.{fresh, setPointer, setPending, setConnection, setAck, setCount, setRunning, setDirection}
+use Rattle.chip.specs.State.{fresh, setPointer, setActivity, setConnection, setAck, setCount, setDirection}
 use Rattle.chip.specs.Answers.{value}
 use Rattle.chip.specs.Interrupts.{interrupted}
 use Rattle.chip.specs.Calls.{auxiliary, register, request}
 use Rattle.chip.specs.declared.State.{State}
 use Rattle.chip.specs.declared.Connection.the-variants.{Connected}
-use Rattle.chip.specs.declared.Pending.the-variants.{Interrupt}
-use Rattle.chip.specs.declared.Running.the-variants.{TransferInfo}
+use Rattle.chip.specs.declared.Activity.the-variants.{Interrupt, Runs}
+use Rattle.chip.specs.declared.Command.the-variants.{TransferInfo}
 use Rattle.chip.specs.declared.Direction.the-variants.{Out}
 use Rattle.chip.proofs.Computing.{everything}
 use Rattle.refusals.specs.Refusals.{RefusalsKeep}
@@ -29,7 +29,7 @@ use Rattle.chip.specs.Fifo.{waits}
 pub blind-clears-falls : RefusalsKeep blindClears → ⊥
 unfolding everything blindClears
 blind-clears-falls h =
-    let s : State = setPointer 0x1A (setPending Interrupt fresh) in
+    let s : State = setPointer 0x1A (setActivity Interrupt fresh) in
     false≢true (ap interrupted (h (register 0 0) s .2 .1 .state))
 
 pub no-data-moves-falls : RefusalsKeep noDataMoves → ⊥
@@ -41,7 +41,7 @@ no-data-moves-falls h =
 pub ignored-quietly-falls : RefusalsKeep ignoredQuietly → ⊥
 unfolding everything ignoredQuietly
 ignored-quietly-falls h =
-    let s : State = setPointer 0x18 (setPending Interrupt fresh) in
+    let s : State = setPointer 0x18 (setActivity Interrupt fresh) in
     false≢true (ap (λ t. t .status .lci) (h (register 1 0x20) s .2 .state))
 
 -- connected, with five bytes left
@@ -63,12 +63,12 @@ holds-everything-falls h = false≢true (h auxiliary fresh)
 
 pub auxiliary-clears-falls : AuxiliaryIsSilent auxiliaryClears → ⊥
 unfolding everything auxiliaryClears
-auxiliary-clears-falls h = false≢true (ap interrupted (h .auxiliary-read (setPending Interrupt fresh)))
+auxiliary-clears-falls h = false≢true (ap interrupted (h .auxiliary-read (setActivity Interrupt fresh)))
 
 pub nods-at-everything-falls : CountFallsOnlyOnTheBus nodsAtEverything → ⊥
 unfolding everything nodsAtEverything isCounted
 nods-at-everything-falls h =
-    let s : State = setRunning TransferInfo five in
+    let s : State = setActivity (Runs TransferInfo) five in
     true≢false (ap (λ n. eqb n 5) (h .counting (request 0 0 0) s))
 
 -- the Data register takes bytes, its pointer set

@@ -14,7 +14,7 @@ use Prim.Native.Nat.{ℕ, suc}
 use lib.Dec.{eqb}
 use Rattle.chip.specs.Choice.{pick}
 use Rattle.chip.specs.Count.{left}
-use Rattle.chip.specs.Running.{isRunning, isSelectAndTransfer, isTransferInfo}
+use Rattle.chip.specs.Activity.{runningNumber, isRunning, isSelectAndTransfer, isTransferInfo}
 use Rattle.chip.specs.Phases.{phaseOf}
 use Rattle.chip.specs.Calls.{Call, Outcome, pointer, auxiliary, register, block, time, answer, reselection, request, free, kind}
 use Rattle.chip.specs.declared.State.{State}
@@ -22,7 +22,7 @@ use Rattle.chip.specs.declared.Answer.{Answer}
 use Rattle.chip.specs.declared.Answer.the-variants.{Done, Held, OutOfPlace, BadNumber, Blind, CommandIgnored, ReselectionIgnored, NoDataNow, Reported}
 use Rattle.chip.specs.declared.Phase.{Phase}
 use Rattle.chip.specs.declared.Phase.the-variants.{DataOut, DataIn, CommandOut, StatusIn, UnspecifiedOut, UnspecifiedIn, MessageOut, MessageIn}
-use Rattle.chip.specs.declared.Running.{Running}
+use Rattle.chip.specs.declared.Activity.{Activity}
 use Rattle.refusals.specs.Refusals.{SameCount}
 
 abbrev pub isData : Phase → Bool
@@ -35,7 +35,7 @@ isData UnspecifiedIn = false
 isData MessageOut = false
 isData MessageIn = false
 
-unfoldable pub isCounted : Running → Phase → Bool
+unfoldable pub isCounted : Activity → Phase → Bool
 isCounted r p = pick (isSelectAndTransfer r) (isData p) (isTransferInfo r)
 
 abbrev pub Falls : Bool → State → State → Type 0
@@ -62,7 +62,7 @@ Counting (block m l) a s t = SameCount s t
 Counting (time n) a s t = SameCount s t
 Counting answer a s t = SameCount s t
 Counting (reselection lines) a s t = SameCount s t
-Counting (request p b q) a s t = Asked a (isCounted (s .transfer .running) (phaseOf p)) s t
+Counting (request p b q) a s t = Asked a (isCounted (s .activity) (phaseOf p)) s t
 Counting free a s t = SameCount s t
 
 abbrev pub isRequest : Call → Bool
@@ -74,5 +74,5 @@ pub record CountFallsOnlyOnTheBus (f : Call → State → Outcome) : Type 0 wher
   -- an access to the Data register, read or written, from every state
   pub at-data : (m b : ℕ) (s : State) → s .status .pointer ≡ 0x19 → SameCount s (f (register m b) s .state)
   -- every call but a Request, while a command goes on
-  pub going-on : (c : Call) (s : State) → isRequest c ≡ false → isRunning (s .transfer .running) ≡ true
-      → f c s .state .transfer .running ≡ s .transfer .running → SameCount s (f c s .state)
+  pub going-on : (c : Call) (s : State) → isRequest c ≡ false → isRunning (s .activity) ≡ true
+      → runningNumber (f c s .state .activity) ≡ runningNumber (s .activity) → SameCount s (f c s .state)

@@ -19,8 +19,9 @@ use Rattle.chip.specs.Answers.{number, value}
 use Rattle.chip.specs.Calls.{Call, Outcome, lentBy}
 use Rattle.chip.specs.declared.State.{State}
 use Rattle.chip.specs.declared.Fifo.{Fifo}
-use Rattle.chip.specs.declared.Pending.{Pending}
-use Rattle.chip.specs.declared.Pending.the-variants.{Interrupt, Ending}
+use Rattle.chip.specs.declared.Activity.{Activity}
+use Rattle.chip.specs.declared.Activity.the-variants.{Interrupt, Ends}
+use Rattle.chip.specs.declared.Command.{Command}
 use Rattle.chip.specs.declared.Direction.{Direction}
 use Rattle.chip.specs.declared.Direction.the-variants.{Unfixed, Out}
 use Rattle.chip.specs.declared.Answer.{Answer}
@@ -47,16 +48,16 @@ pub data Untaken : Fifo → Fifo → Type 0 where
   kept : {q : Fifo} → Untaken q q
   dropped : {q : Fifo} → Untaken q empty
 
--- by what is pending afterwards, and the way before and after
-pub data Cause : Pending → Direction → Direction → Type 0 where
+-- by the activity afterwards, and the way before and after
+pub data Cause : Activity → Direction → Direction → Type 0 where
   raised : {d e : Direction} → Cause Interrupt d e
-  ending : {code : ℕ} {d e : Direction} → Cause (Ending code) d e
-  opened : {p : Pending} → Cause p Unfixed Out
+  ending : {r : Command} {code : ℕ} {d e : Direction} → Cause (Ends r code) d e
+  opened : {a : Activity} → Cause a Unfixed Out
 
 pub record Noticed (s t : State) : Type 0 where
   pub count : SameCount s t
   pub fifo : Untaken (s .fifo) (t .fifo)
-  pub cause : Cause (t .status .pending) (s .transfer .direction) (t .transfer .direction)
+  pub cause : Cause (t .activity) (s .transfer .direction) (t .transfer .direction)
 
 abbrev pub Row : Answer → ℕ → ℕ → Type 0 → Type 0
 Row a n v leaves = (number a ≡ n) × (value a ≡ v) × leaves

@@ -16,7 +16,7 @@ use Prim.Native.Nat.{ℕ}
 use lib.Dec.{eqb}
 use lib.ListN.{length, take}
 use Rattle.chip.specs.Choice.{pick, both}
-use Rattle.chip.specs.State.{setPointer, setLci, setPending}
+use Rattle.chip.specs.State.{setPointer, setLci, setActivity}
 use Rattle.chip.specs.Answers.{number}
 use Rattle.chip.specs.Count.{lowered}
 use Rattle.chip.specs.TransferInfo.{takenIn}
@@ -24,7 +24,7 @@ use Rattle.chip.specs.Calls.{Call, Outcome, pointer, auxiliary, register, block
 use Rattle.chip.specs.declared.State.{State}
 use Rattle.chip.specs.declared.Answer.{Answer}
 use Rattle.chip.specs.declared.Answer.the-variants.{Done, Held}
-use Rattle.chip.specs.declared.Pending.the-variants.{Nothing}
+use Rattle.chip.specs.declared.Activity.the-variants.{Idle}
 
 unfoldable pub spoilt : (Call → State → Answer → Bool) → (State → State) → Call → State → Outcome
 spoilt test change c s =
@@ -40,7 +40,7 @@ answers n c s a = eqb (number a) n
 
 unfoldable pub blindClears : Call → State → Outcome
 unfolding spoilt
-blindClears = spoilt (answers 4) (setPending Nothing)
+blindClears = spoilt (answers 4) (setActivity Idle)
 
 unfoldable pub noDataMoves : Call → State → Outcome
 unfolding spoilt
@@ -66,7 +66,7 @@ nodsAtEverything c s = record { answer = Done 0; state = s; lent = lentBy c }
 
 unfoldable pub auxiliaryClears : Call → State → Outcome
 unfolding spoilt
-auxiliaryClears = spoilt (λ c s a. eqb (kind c) 1) (setPending Nothing)
+auxiliaryClears = spoilt (λ c s a. eqb (kind c) 1) (setActivity Idle)
 
 unfoldable pub writeCounts : Call → State → Outcome
 unfolding spoilt

@@ -2,19 +2,18 @@
 ghost use mathlib.Core.Path.{_≡_};
 ghost use Rattle.chip.specs.SelectAndTransfer.{freeAfterDisconnect, freeToWait, selectAndTransferFree};
 use chip::Connection;
-use chip::Pending;
 use chip::Reply;
 use chip::State;
+use state::activity;
+use state::get;
 use state::set;
 
 fn free_to_wait(s: State, t: State) -> Reply
     ensures { λ r. ⌜ r ≡ freeToWait s t ⌝ }
 {
     if interrupts::bytes_unread(s) {
-        if interrupts::interrupted(s) {
-            return answers::held(s);
-        }
-        return answers::done(0, set::pending(t, Pending::ReadOut));
+        let a = activity::reads_out(get::activity(s));
+        return answers::done(0, set::activity(t, a));
     }
     answers::done(0, set::connection(t, Connection::Waiting))
 }
@@ -23,9 +22,6 @@ fn free_after_disconnect(s: State, t: State) -> Reply
     ensures { λ r. ⌜ r ≡ freeAfterDisconnect s t ⌝ }
 {
     if lines::idi(s) {
-        if interrupts::interrupted(s) {
-            return answers::held(s);
-        }
         return answers::done(0, interrupts::ending_with(0x85, t));
     }
     free_to_wait(s, t)
@@ -36,9 +32,6 @@ pub fn freed(s: State, t: State) -> Reply
 {
     if s.registers.descriptor.phase == 0x42 {
         return free_after_disconnect(s, set::phase(t, 0x43));
-    }
-    if interrupts::interrupted(s) {
-        return answers::held(s);
     }
     answers::done(0, interrupts::ending_with(0x41, t))
 }

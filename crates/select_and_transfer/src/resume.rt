@@ -2,8 +2,9 @@
 ghost use mathlib.Core.Path.{_≡_};
 ghost use Rattle.chip.specs.SelectAndTransfer.{ackAfterResume, fromDisconnected, isAtEnd, isEarly, isMiddle, isResumable, resumed};
 use crate::stage;
+use chip::Activity;
+use chip::Command;
 use chip::Noted;
-use chip::Running;
 use chip::State;
 use state::set;
 
@@ -65,10 +66,13 @@ fn ack_after_resume(s: State) -> bool
     false
 }
 
-pub fn resumed(r: Running, s: State) -> State
+pub fn resumed(r: Command, s: State) -> State
     ensures { λ x. ⌜ x ≡ resumed r s ⌝ }
 {
-    let t = set::ack(set::running(count::loaded(s), r), ack_after_resume(s));
+    let t = set::ack(
+        set::activity(count::loaded(s), Activity::Runs(r)),
+        ack_after_resume(s),
+    );
     if s.registers.descriptor.phase == 0x60 {
         return interrupts::ending_with(0x16, set::reported(t, Noted::NoPhase));
     }

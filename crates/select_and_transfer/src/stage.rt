@@ -4,7 +4,7 @@ ghost use Prim.Native.Nat.{_-_};
 ghost use Rattle.chip.specs.SelectAndTransfer.{firstStage, hasSize, isCommandPhase, nextStage, size, sizeOf, stage, stageOf};
 use chip::Stage;
 use chip::State;
-use state::running;
+use state::activity;
 
 fn size_of(b: u8) -> u8
     ensures { λ r. ⌜ r ≡ sizeOf b ⌝ }
@@ -120,5 +120,5 @@ fn stage_of(identifies: bool, phase: u8, n: u8) -> Stage
 pub fn stage(s: State) -> Stage
     ensures { λ r. ⌜ r ≡ stage s ⌝ }
 {
-    stage_of(running::sets_atn(s), s.registers.descriptor.phase, size(s))
+    stage_of(activity::sets_atn(s), s.registers.descriptor.phase, size(s))
 }

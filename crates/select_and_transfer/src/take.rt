@@ -15,9 +15,6 @@ use state::set;
 pub fn unexpected(p: Phase, s: State) -> Reply
     ensures { λ r. ⌜ r ≡ unexpected p s ⌝ }
 {
-    if interrupts::interrupted(s) {
-        return answers::held(s);
-    }
     answers::reports(interrupts::ending_with(
         phases::coded(0x48, p),
         set::reported(s, Noted::Was(p)),
@@ -39,9 +36,6 @@ fn save(bad: bool, s: State) -> Reply
 {
     if transfer_info::halts(bad, s) {
         return transfer_info::halted(s);
-    }
-    if interrupts::interrupted(s) {
-        return answers::held(s);
     }
     let t = set::ack(set::phase(transfer_info::parity_noted(bad, s), 0x41), true);
     answers::done(
@@ -106,9 +100,6 @@ fn completed(bad: bool, s: State) -> Reply
 {
     if transfer_info::halts(bad, s) {
         return transfer_info::halted(s);
-    }
-    if interrupts::interrupted(s) {
-        return answers::held(s);
     }
     let t = set::reported(
         set::phase(transfer_info::parity_noted(bad, s), 0x60),

@@ -11,7 +11,8 @@ use native.Mathlib.Omega.{arith}
 use borrow.Author.Tests.{lt-ltb, lt-leb, ne-eqb}
 use Rattle.chip.specs.Choice.{pick, both, either}
 use Rattle.chip.specs.State.{setPointer}
-use Rattle.chip.specs.Interrupts.{isEnding, busy}
+use Rattle.chip.specs.Interrupts.{busy}
+use Rattle.chip.specs.Activity.{isRunning}
 use Rattle.chip.specs.Registers.{pointerSet, pointerAfter, isBlind, registerAt, readAt, writtenAt, stepped, accessedAt, accessed, storedIn}
 use Rattle.chip.specs.Calls.{pointer, register, Outcome, isGood, carried, step}
 use Rattle.chip.specs.declared.State.{State}
@@ -23,9 +24,8 @@ use Rattle.chip.specs.declared.Noted.{Noted}
 use Rattle.chip.specs.declared.Connection.the-variants.{Disconnected}
 use Rattle.chip.specs.declared.Fifo.{Fifo}
 use Rattle.chip.specs.declared.Wire.{Wire}
-use Rattle.chip.specs.declared.Pending.{Pending}
+use Rattle.chip.specs.declared.Activity.{Activity}
 use Rattle.chip.specs.declared.Direction.{Direction}
-use Rattle.chip.specs.declared.Running.the-variants.{Idle}
 use Rattle.chip.specs.declared.Phase.{Phase}
 use Rattle.story.specs.Story.{Item}
 use Rattle.story.specs.Hosts.{Access, put, get, Note, note, Host, Program}
@@ -41,9 +41,9 @@ pub point-step : (a : ℕ) (s : State) → a < 256 → step (pointer 1 a) s ≡ 
 unfolding step isGood carried pointerSet pick both
 point-step a s h = rw (lt-ltb a 256 h)
 
-module _ (r : Registers) (c m : ℕ) (l e : Bool) (p : Pending) (q : Fifo) (d : Direction) (o : Bool) (w : Wire) (calm : isEnding p ≡ false) where
+module _ (r : Registers) (c m : ℕ) (l e : Bool) (y : Activity) (q : Fifo) (d : Direction) (o : Bool) (w : Wire) (calm : isRunning y ≡ false) where
   abbrev at : ℕ → Registers → State
-  at a r′ = theState r′ (theStatus a c m l e p) q (theTransfer Idle d o) w
+  at a r′ = theState r′ (theStatus a c m l e) y q (theTransfer d o) w
 
   pub put-step : (a b : ℕ) → a < 0x17 → b < 256 → step (register 1 b) (at a r) ≡ gives 0 (at (pointerAfter a) (storedIn a b r))
   unfolding step isGood carried accessed accessedAt isBlind busy writtenAt stepped pick both either
@@ -55,7 +55,7 @@ module _ (r : Registers) (c m : ℕ) (l e : Bool) (p : Pending) (q : Fifo) (d : 
         ne-eqb a 0x17 (omega arith),
         ne-eqb a 0x18 (omega arith),
         ne-eqb a 0x19 (omega arith),
-        stored-is a b r (theStatus a c m l e p) q (theTransfer Idle d o) w,
+        stored-is a b r (theStatus a c m l e) y q (theTransfer d o) w,
       )
 
   pub get-step : (a : ℕ) → a < 0x17 → step (register 0 0) (at a r) ≡ gives (registerAt a r) (at (pointerAfter a) r)
@@ -98,12 +98,12 @@ module _ (g : Program) where
   attend-at {c} e a = attend c (subst (λ (z : Scene). Attends z) (sym e) a)
 
   -- before the selection the Target calls in vain
-  pub bus-idle : (r : Registers) (st : Status) (q : Fifo) (tr : Transfer) (at ak : Bool) (rp ls : Noted) (id : Kept) (el : ℕ) (h : Host) (pa : ℕ)
-      (t : List Item)
-      → bus step g (theScene (theState r st q tr (theWire Disconnected at ak rp ls id el)) h (theTarget calling pa [] t))
-      ≡ theScene (theState r st q tr (theWire Disconnected at ak rp ls id el)) h (theTarget calling pa [] t)
+  pub bus-idle : (r : Registers) (st : Status) (act : Activity) (q : Fifo) (tr : Transfer) (at ak : Bool) (rp ls : Noted) (id : Kept) (el : ℕ) (h : Host)
+      (pa : ℕ) (t : List Item)
+      → bus step g (theScene (theState r st act q tr (theWire Disconnected at ak rp ls id el)) h (theTarget calling pa [] t))
+      ≡ theScene (theState r st act q tr (theWire Disconnected at ak rp ls id el)) h (theTarget calling pa [] t)
   unfolding steps
-  bus-idle r st q tr at ak rp ls id el h pa t = refl
+  bus-idle r st act q tr at ak rp ls id el h pa t = refl
 
 pub none-left : {x : ℕ} (d e : List ℕ) → [] ≡ (x ∷ d) ++ e → ⊥
 none-left d e q = let z : _≡_ {A = ℕ} 0 1 = cc in omega arith

@@ -13,8 +13,7 @@ use Rattle.chip.specs.Phases.{phaseNumber, comesIn}
 use Rattle.chip.specs.Calls.{step, run}
 use Rattle.chip.specs.State.{fresh}
 use Rattle.chip.specs.declared.State.{State}
-use Rattle.chip.specs.declared.Pending.the-variants.{Nothing}
-use Rattle.chip.specs.declared.Running.the-variants.{Idle}
+use Rattle.chip.specs.declared.Activity.the-variants.{Idle}
 use Rattle.chip.specs.declared.Connection.the-variants.{Disconnected}
 use Rattle.chip.specs.declared.Phase.{Phase}
 use Rattle.chip.specs.declared.Phase.the-variants.{DataOut, DataIn, CommandOut, StatusIn, MessageOut, MessageIn}
@@ -37,15 +36,15 @@ use Rattle.served.proofs.TransferServes as AS
 module _ (s : State) (a : Apart s) where
   abbrev plain : State
   plain =
-      theState (s .registers) (theStatus (s .status .pointer) (s .status .code) (s .status .command) (s .status .lci) (s .status .pe) Nothing) (s .fifo)
-      (theTransfer Idle (s .transfer .direction) (s .transfer .single))
+      theState (s .registers) (theStatus (s .status .pointer) (s .status .code) (s .status .command) (s .status .lci) (s .status .pe)) Idle (s .fifo)
+      (theTransfer (s .transfer .direction) (s .transfer .single))
       (theWire Disconnected (s .wire .handshake .atn) false (s .wire .seen .reported) (s .wire .seen .last) (keptOf s) (s .wire .elapsed))
 
   is-plain : s ≡ plain
   is-plain =
       λ x.
-      theState (s .registers) (theStatus (s .status .pointer) (s .status .code) (s .status .command) (s .status .lci) (s .status .pe) (a .pending x)) (s .fifo)
-      (theTransfer (a .running x) (s .transfer .direction) (s .transfer .single))
+      theState (s .registers) (theStatus (s .status .pointer) (s .status .code) (s .status .command) (s .status .lci) (s .status .pe)) (a .activity x) (s .fifo)
+      (theTransfer (s .transfer .direction) (s .transfer .single))
       (theWire (a .connection x) (s .wire .handshake .atn) (a .ack x) (s .wire .seen .reported) (s .wire .seen .last) (keptOf s) (s .wire .elapsed))
 
 module _ {s₀ : State} (j : Job) (pr : Proper s₀ j) (s : State) (a : Apart s) (patience : ℕ) (t : InTime (j .timeout) patience) where

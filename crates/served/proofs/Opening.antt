@@ -23,7 +23,7 @@ unfolding scenes Choice.pick Choice.both Choice.either Lines.er Lines.lunOf Line
     Sat.selectAndTransferRequest Sat.selectAndTransferFree Sat.fromDisconnected Sat.hasSize Commands.table Commands.entryOf Commands.isReady
     Commands.isValid Commands.selecting Commands.selectAndTransferBegun Commands.transferInfoBegun Commands.carriedOut Commands.accepted
     Commands.isRefusedBusy Commands.commanded Registers.pointerSet Registers.auxiliaryRead Registers.dataRead Registers.dataWritten Registers.isBlind Registers.readAt
-    Registers.writtenAt Registers.stepped Registers.accessedAt Registers.accessed Events.selectionTime Events.passed Events.connected
+    Registers.writtenAt Registers.stepped Registers.accessedAt Registers.accessed Events.selectionTime Events.selects Events.passed Events.connected
     Events.answeredState Events.answeredSelecting Events.answered Events.idleRequest Events.requestedRunning Events.requestedConnected Events.remembered
     Events.requested Events.busFree Events.idleFree Events.freedRunning Events.freed Calls.isGood Calls.carried Calls.step
 steps = tt

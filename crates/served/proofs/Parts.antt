@@ -7,7 +7,7 @@
 use mathlib.Core.Path.{_≡_, refl, _∙_}
 use mathlib.Core.Bool.{Bool, true, false}
 use mathlib.Core.List.{List, [], _∷_, _++_, append-assoc}
-use Prim.Native.Nat.{ℕ, _-_, _<_}
+use Prim.Native.Nat.{ℕ, _<_}
 use Rattle.chip.specs.Registers.{registerAt, storedIn, stored}
 use Rattle.chip.specs.declared.State.{State}
 use Rattle.chip.specs.declared.Registers.{Registers}
@@ -17,8 +17,7 @@ use Rattle.chip.specs.declared.Transfer.{Transfer}
 use Rattle.chip.specs.declared.Wire.{Wire}
 use Rattle.chip.specs.declared.Identity.{Identity}
 use Rattle.chip.specs.declared.Connection.{Connection}
-use Rattle.chip.specs.declared.Running.{Running}
-use Rattle.chip.specs.declared.Pending.{Pending}
+use Rattle.chip.specs.declared.Activity.{Activity}
 use Rattle.chip.specs.declared.Direction.{Direction}
 use Rattle.chip.specs.declared.Noted.{Noted}
 use Rattle.chip.specs.declared.Phase.{Phase}
@@ -36,11 +35,11 @@ theRegisters o c t b l p y n d s =
       source = s;
     }
 
-abbrev pub theStatus : ℕ → ℕ → ℕ → Bool → Bool → Pending → Status
-theStatus a c m l e p = record { pointer = a; code = c; command = m; lci = l; pe = e; pending = p }
+abbrev pub theStatus : ℕ → ℕ → ℕ → Bool → Bool → Status
+theStatus a c m l e = record { pointer = a; code = c; command = m; lci = l; pe = e }
 
-abbrev pub theTransfer : Running → Direction → Bool → Transfer
-theTransfer r d o = record { running = r; direction = d; single = o }
+abbrev pub theTransfer : Direction → Bool → Transfer
+theTransfer d o = record { direction = d; single = o }
 
 -- what no scene asks for and no step here changes. A field more of that kind stands here, and no scene has to name it
 pub record Kept : Type 0 where
@@ -59,8 +58,8 @@ theWire c a k r l i e =
       elapsed = e;
     }
 
-abbrev pub theState : Registers → Status → Fifo → Transfer → Wire → State
-theState r s q t w = record { registers = r; status = s; fifo = q; transfer = t; wire = w }
+abbrev pub theState : Registers → Status → Activity → Fifo → Transfer → Wire → State
+theState r s x q t w = record { registers = r; status = s; activity = x; fifo = q; transfer = t; wire = w }
 
 abbrev pub theHost : List Access → Bool → Phase → List ℕ → List Item → List Note → Host
 theHost l f p v t n = record { ahead = l; pointed = f; phase = p; give = v; got = t; noted = n }
@@ -88,10 +87,10 @@ pub data Polls : Bool → Bool → Bool → List Access → Bool → ℕ → Typ
   ready : {i w o : Bool} {x : Access} → Polled i w o x → Polls i w o (x ∷ []) true (addressOf x)
 
 -- a write to 00 to 16h changes the registers only
-pub stored-is : (a b : ℕ) (r : Registers) (s : Status) (q : Fifo) (v : Transfer) (w : Wire)
-    → stored a b (theState r s q v w) ≡ theState (storedIn a b r) s q v w
+pub stored-is : (a b : ℕ) (r : Registers) (s : Status) (x : Activity) (q : Fifo) (v : Transfer) (w : Wire)
+    → stored a b (theState r s x q v w) ≡ theState (storedIn a b r) s x q v w
 unfolding stored
-stored-is a b r s q v w = refl
+stored-is a b r s x q v w = refl
 
 pub data Plays (after : List Access) (Goal : Registers → List Note → Type 0) : List Access → Registers → List Note → Type 0 where
   over : {r : Registers} {n : List Note} → Goal r n → Plays after Goal after r n

@@ -17,8 +17,9 @@ use Rattle.chip.specs.Phases.{phaseNumber, comesIn, isMessageIn, samePhase}
 use Rattle.chip.specs.declared.Registers.{Registers}
 use Rattle.chip.specs.declared.Fifo.{Fifo}
 use Rattle.chip.specs.declared.Connection.the-variants.{Disconnected, Selecting, Connected}
-use Rattle.chip.specs.declared.Running.the-variants.{Idle, SelectWithAtn, TransferInfo}
-use Rattle.chip.specs.declared.Pending.the-variants.{Nothing, Interrupt, Ending}
+use Rattle.chip.specs.declared.Command.the-variants.{SelectWithAtn, TransferInfo}
+use Rattle.chip.specs.declared.Activity.the-variants.{Idle, Interrupt, Runs}
+use Rattle.chip.specs.declared.Activity.the-variants as Activity
 use Rattle.chip.specs.declared.Direction.{Direction}
 use Rattle.chip.specs.declared.Direction.the-variants.{In, Out}
 use Rattle.chip.specs.declared.Noted.{Noted}
@@ -118,7 +119,7 @@ module _ (j : Job) (whole : List Item) (total : List Note) where
         → Noting [] (notesAfter g)
         → Tale whole [] (flat g)
         → Begins
-        (theScene (theState r (theStatus x c m l e Nothing) q (theTransfer Idle d o) (theWire Disconnected at false rp ls id el))
+        (theScene (theState r (theStatus x c m l e) Idle q (theTransfer d o) (theWire Disconnected at false rp ls id el))
         (theHost td f MessageOut [] [] n) (theTarget calling pa [] (flat g)))
     seeks : {c m x pa el ow ct tm lu ph sy ct2 ds sr : ℕ} {l e at o f : Bool} {q : Fifo} {d : Direction} {rp ls : Noted} {id : Kept}
         {td : List Access} {cd : List ℕ} {g : List Seg}
@@ -130,7 +131,7 @@ module _ (j : Job) (whole : List Item) (total : List Note) where
         → Tale whole [] (flat g)
         → Begins
         (theScene
-        (theState (theRegisters ow ct tm cd lu ph sy ct2 ds sr) (theStatus x c m l e Nothing) q (theTransfer SelectWithAtn d o)
+        (theState (theRegisters ow ct tm cd lu ph sy ct2 ds sr) (theStatus x c m l e) (Runs SelectWithAtn) q (theTransfer d o)
         (theWire Selecting at false rp ls id el)) (theHost td f MessageOut [] [] []) (theTarget calling pa [] (flat g)))
     greets : {m x pa el : ℕ} {l e at o f : Bool} {q : Fifo} {d : Direction} {ls : Noted} {id : Kept} {td : List Access} {r : Registers} {g : List Seg}
         → Polls true false true td f x
@@ -139,7 +140,7 @@ module _ (j : Job) (whole : List Item) (total : List Note) where
         → Noting [] (notesAfter g)
         → Tale whole [] (flat g)
         → Begins
-        (theScene (theState r (theStatus x 0x11 m l e Interrupt) q (theTransfer Idle d o) (theWire Connected at false NoPhase ls id el))
+        (theScene (theState r (theStatus x 0x11 m l e) Interrupt q (theTransfer d o) (theWire Connected at false NoPhase ls id el))
         (theHost td f MessageOut [] [] []) (theTarget talking pa [] (flat g)))
     waits : {c m x pa el : ℕ} {l e at o f : Bool} {q : Fifo} {d : Direction} {ls : Noted} {id : Kept} {td : List Access} {r : Registers} {g : List Seg}
         → Polls false false true td f x
@@ -148,7 +149,7 @@ module _ (j : Job) (whole : List Item) (total : List Note) where
         → Noting [] (notesAfter g)
         → Tale whole [] (flat g)
         → Begins
-        (theScene (theState r (theStatus x c m l e Nothing) q (theTransfer Idle d o) (theWire Connected at false NoPhase ls id el))
+        (theScene (theState r (theStatus x c m l e) Idle q (theTransfer d o) (theWire Connected at false NoPhase ls id el))
         (theHost td f MessageOut [] [] []) (theTarget talking pa [] (flat g)))
     named : {c m x pa el ow ct tm lu ph sy lf ds sr : ℕ} {l e at o f : Bool} {q : Fifo} {d : Direction} {ls : Noted} {id : Kept}
         {td : List Access} {cd v bs y : List ℕ} {g : List Seg} {p cr : Phase} {log got : List Item} {n : List Note}
@@ -162,7 +163,7 @@ module _ (j : Job) (whole : List Item) (total : List Note) where
         → Tale whole log (flat (seg p bs y ∷ g))
         → Begins
         (theScene
-        (theState (theRegisters ow ct tm cd lu ph sy lf ds sr) (theStatus x c m l e Interrupt) q (theTransfer Idle d o)
+        (theState (theRegisters ow ct tm cd lu ph sy lf ds sr) (theStatus x c m l e) Interrupt q (theTransfer d o)
         (theWire Connected at false (Was p) ls id el)) (theHost td f cr v got n) (theTarget talking pa log (flat (seg p bs y ∷ g))))
     coded : {c m x pa el : ℕ} {l e at o f : Bool} {q : Fifo} {d : Direction} {ls : Noted} {id : Kept} {td : List Access} {r : Registers}
         {bs y : List ℕ} {g : List Seg} {p : Phase} {log got : List Item} {n : List Note}
@@ -173,7 +174,7 @@ module _ (j : Job) (whole : List Item) (total : List Note) where
         → Heard log got DataIn []
         → Tale whole log (flat (seg p bs y ∷ g))
         → Begins
-        (theScene (theState r (theStatus x c m l e Nothing) q (theTransfer Idle d o) (theWire Connected at false (Was p) ls id el))
+        (theScene (theState r (theStatus x c m l e) Idle q (theTransfer d o) (theWire Connected at false (Was p) ls id el))
         (theHost td f p (giveFor j p) got n) (theTarget talking pa log (flat (seg p bs y ∷ g))))
 
   -- a phase goes out
@@ -190,7 +191,7 @@ module _ (j : Job) (whole : List Item) (total : List Note) where
         → Tale whole log (items p rest ++ flat g)
         → Sends
         (theScene
-        (theState (theRegisters ow ct tm cd lu ph sy (length rest + length y) ds sr) (theStatus x c m l e Nothing) q (theTransfer TransferInfo Out false)
+        (theState (theRegisters ow ct tm cd lu ph sy (length rest + length y) ds sr) (theStatus x c m l e) (Runs TransferInfo) q (theTransfer Out false)
         (theWire Connected at false (Was p) ls id el)) (theHost td f p give got n) (theTarget talking pa log (items p rest ++ flat g)))
 
   -- a phase comes in
@@ -208,7 +209,7 @@ module _ (j : Job) (whole : List Item) (total : List Note) where
         → Tale whole log (items p rest ++ flat g)
         → Takes
         (theScene
-        (theState (theRegisters ow ct tm cd lu ph sy (length rest + length y) ds sr) (theStatus x c m l e Nothing) q (theTransfer TransferInfo In false)
+        (theState (theRegisters ow ct tm cd lu ph sy (length rest + length y) ds sr) (theStatus x c m l e) (Runs TransferInfo) q (theTransfer In false)
         (theWire Connected at false (Was p) ls id el)) (theHost td f p v got n) (theTarget talking pa log (items p rest ++ flat g)))
 
   -- the last byte is to come
@@ -224,7 +225,7 @@ module _ (j : Job) (whole : List Item) (total : List Note) where
         → Tale whole log (item MessageIn b ∷ [])
         → Closes
         (theScene
-        (theState (theRegisters ow ct tm cd lu ph sy 1 ds sr) (theStatus x c m l e Nothing) q (theTransfer TransferInfo In false)
+        (theState (theRegisters ow ct tm cd lu ph sy 1 ds sr) (theStatus x c m l e) (Runs TransferInfo) q (theTransfer In false)
         (theWire Connected at false (Was MessageIn) ls id el)) (theHost td f MessageIn v got n) (theTarget talking pa log (item MessageIn b ∷ [])))
 
   -- another phase waits until the bytes are read out
@@ -242,7 +243,7 @@ module _ (j : Job) (whole : List Item) (total : List Note) where
         → Tale whole log (flat (seg p bs y ∷ g))
         → Drains
         (theScene
-        (theState (theRegisters ow ct tm cd lu ph sy lf ds sr) (theStatus x c m l e (Ending k)) q (theTransfer TransferInfo In o)
+        (theState (theRegisters ow ct tm cd lu ph sy lf ds sr) (theStatus x c m l e) (Activity.Ends TransferInfo k) q (theTransfer In o)
         (theWire Connected at false (Was p) ls id el)) (theHost td f cr v got n) (theTarget talking pa log (flat (seg p bs y ∷ g))))
 
   -- Message In is over
@@ -257,7 +258,7 @@ module _ (j : Job) (whole : List Item) (total : List Note) where
         → Tale whole log []
         → Ends
         (theScene
-        (theState r (theStatus x c m l e (Ending 0x20)) q (theTransfer TransferInfo In o) (theWire Connected at true rp ls id el))
+        (theState r (theStatus x c m l e) (Activity.Ends TransferInfo 0x20) q (theTransfer In o) (theWire Connected at true rp ls id el))
         (theHost td f MessageIn v got n) (theTarget talking pa log []))
     paused : {m x pa el : ℕ} {l e at o f : Bool} {q : Fifo} {d : Direction} {rp ls : Noted} {id : Kept} {td : List Access} {r : Registers} {v : List ℕ}
         {log got : List Item} {n : List Note} {hp : Phase}
@@ -269,7 +270,7 @@ module _ (j : Job) (whole : List Item) (total : List Note) where
         → Tale whole log []
         → Ends
         (theScene
-        (theState r (theStatus x 0x20 m l e Interrupt) q (theTransfer Idle d o) (theWire Connected at true rp ls id el)) (theHost td f hp v got n)
+        (theState r (theStatus x 0x20 m l e) Interrupt q (theTransfer d o) (theWire Connected at true rp ls id el)) (theHost td f hp v got n)
         (theTarget talking pa log []))
     negates : {c m x pa el : ℕ} {l e at o f : Bool} {q : Fifo} {d : Direction} {rp ls : Noted} {id : Kept} {r : Registers} {v : List ℕ}
         {log got : List Item} {n : List Note} {hp : Phase}
@@ -281,7 +282,7 @@ module _ (j : Job) (whole : List Item) (total : List Note) where
         → Tale whole log []
         → Ends
         (theScene
-        (theState r (theStatus x c m l e Nothing) q (theTransfer Idle d o) (theWire Connected at true rp ls id el))
+        (theState r (theStatus x c m l e) Idle q (theTransfer d o) (theWire Connected at true rp ls id el))
         (theHost (put 0x18 0x03 ∷ []) f hp v got n) (theTarget talking pa log []))
     calm : {c m x pa el : ℕ} {l e at o f : Bool} {q : Fifo} {d : Direction} {rp ls : Noted} {id : Kept} {td : List Access} {r : Registers} {v : List ℕ}
         {log got : List Item} {n : List Note} {hp : Phase}
@@ -293,7 +294,7 @@ module _ (j : Job) (whole : List Item) (total : List Note) where
         → Tale whole log []
         → Ends
         (theScene
-        (theState r (theStatus x c m l e Nothing) q (theTransfer Idle d o) (theWire Connected at false rp ls id el)) (theHost td f hp v got n)
+        (theState r (theStatus x c m l e) Idle q (theTransfer d o) (theWire Connected at false rp ls id el)) (theHost td f hp v got n)
         (theTarget talking pa log []))
     gone : {m x pa el : ℕ} {l e at o f : Bool} {q : Fifo} {d : Direction} {rp ls : Noted} {id : Kept} {td : List Access} {r : Registers} {v : List ℕ}
         {log got : List Item} {n : List Note} {hp : Phase}
@@ -305,7 +306,7 @@ module _ (j : Job) (whole : List Item) (total : List Note) where
         → Tale whole log []
         → Ends
         (theScene
-        (theState r (theStatus x 0x85 m l e Interrupt) q (theTransfer Idle d o) (theWire Disconnected at false rp ls id el)) (theHost td f hp v got n)
+        (theState r (theStatus x 0x85 m l e) Interrupt q (theTransfer d o) (theWire Disconnected at false rp ls id el)) (theHost td f hp v got n)
         (theTarget away pa log []))
     rests : {c m x pa el : ℕ} {l e at o f : Bool} {q : Fifo} {d : Direction} {rp ls : Noted} {id : Kept} {td : List Access} {r : Registers} {v : List ℕ}
         {log got : List Item} {n : List Note} {hp : Phase}
@@ -317,7 +318,7 @@ module _ (j : Job) (whole : List Item) (total : List Note) where
         → Tale whole log []
         → Ends
         (theScene
-        (theState r (theStatus x c m l e Nothing) q (theTransfer Idle d o) (theWire Disconnected at false rp ls id el)) (theHost td f hp v got n)
+        (theState r (theStatus x c m l e) Idle q (theTransfer d o) (theWire Disconnected at false rp ls id el)) (theHost td f hp v got n)
         (theTarget away pa log []))
 
   pub data Reach (c : Scene) : Type 0 where

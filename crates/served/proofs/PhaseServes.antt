@@ -17,16 +17,17 @@ use Rattle.chip.specs.declared.Registers.{Registers}
 use Rattle.chip.specs.declared.Transfer.{Transfer}
 use Rattle.chip.specs.declared.Fifo.{Fifo}
 use Rattle.chip.specs.declared.Connection.the-variants.{Disconnected, Connected}
-use Rattle.chip.specs.declared.Running.the-variants.{Idle, TransferInfo}
-use Rattle.chip.specs.Interrupts.{isEnding}
-use Rattle.chip.specs.declared.Pending.{Pending}
-use Rattle.chip.specs.declared.Pending.the-variants.{Nothing, Interrupt, Ending}
+use Rattle.chip.specs.declared.Command.{Command}
+use Rattle.chip.specs.declared.Command.the-variants.{TransferInfo}
+use Rattle.chip.specs.declared.Activity.{Activity}
+use Rattle.chip.specs.declared.Activity.the-variants.{Idle, Interrupt, Runs, Ends}
 use Rattle.chip.specs.declared.Direction.{Direction}
 use Rattle.chip.specs.declared.Direction.the-variants.{In, Out}
 use Rattle.chip.specs.declared.Noted.{Noted}
 use Rattle.chip.specs.declared.Noted.the-variants.{NoPhase, Was}
 use Rattle.chip.specs.declared.Phase.{Phase}
 use Rattle.chip.specs.declared.Phase.the-variants.{MessageOut, MessageIn}
+use Rattle.reached.specs.Sound.{Resting, unasked, told}
 use Rattle.story.specs.Story.{Item, item, Job}
 use Rattle.story.specs.Hosts.{Access, put, Note, Host, giveFor, serving, byPhases}
 use Rattle.story.specs.Schedule.{calling, talking, away, Scene, bus, Brought, now}
@@ -39,7 +40,7 @@ use Rattle.served.proofs.Accesses.{put-done, get-done, wait-at, at-once
 use Rattle.served.proofs.Going.{Going, owed-out}
 use Rattle.served.proofs.Polling.{any-poll}
 use Rattle.served.proofs.PhaseFacts.{phase-round, phase-small, same-phase, shown-byte, single-info, heard-11, heard-20, heard-85, heard-named, good-byte, noting-on, plays-phase}
-use Rattle.served.proofs.PhaseScenes.{Seg, seg, flat, notesOf, notesAfter, Names, Good, last, more, After, next, Noting, Ready, Counted, polls, Begins, Sends, Takes, Closes, Drains, Ends, Reach, begins, sending, taking, closing, draining, ends, loads, seeks, greets, waits, named, sends, takes, closes, drains, pauses, paused, calm, gone, rests}
+use Rattle.served.proofs.PhaseScenes.{Seg, seg, flat, notesOf, notesAfter, Names, Good, last, more, After, next, Noting, Ready, Counted, polls, Begins, Sends, Takes, Closes, Drains, Reach, begins, sending, taking, closing, draining, ends, loads, seeks, greets, waits, named, sends, takes, closes, drains, pauses, paused, calm, gone, rests}
 use Rattle.served.proofs.PhaseScenes as S
 use Rattle.served.proofs.PhaseSteps.{good-small}
 
@@ -48,19 +49,22 @@ module _ (j : Job) (whole : List Item) (total : List Note) where
   B c = Brought step (byPhases j) c
 
   -- a phase that is reported is Held while no command runs, its code read or not
-  bus-named : (r : Registers) (x c m : ℕ) (l e : Bool) (pd : Pending) (q : Fifo) (d : Direction) (o at : Bool) (ls : Noted) (id : Kept) (el : ℕ) (h : Host)
-      (pa : ℕ) (log : List Item) {p : Phase} {bs y : List ℕ} {g : List Seg}
-      → isEnding pd ≡ false
+  bus-named : (r : Registers) (x c m : ℕ) (l e : Bool) (q : Fifo) (d : Direction) (o at : Bool) (ls : Noted) (id : Kept) (el : ℕ) (h : Host)
+      (pa : ℕ) (log : List Item) {act : Activity} {p : Phase} {bs y : List ℕ} {g : List Seg}
+      → Resting act
       → Good j whole total (seg p bs y ∷ g)
       → bus step (byPhases j)
-      (theScene (theState r (theStatus x c m l e pd) q (theTransfer Idle d o) (theWire Connected at false (Was p) ls id el)) h
+      (theScene (theState r (theStatus x c m l e) act q (theTransfer d o) (theWire Connected at false (Was p) ls id el)) h
       (theTarget talking pa log (flat (seg p bs y ∷ g))))
-      ≡ theScene (theState r (theStatus x c m l e pd) q (theTransfer Idle d o) (theWire Connected at false (Was p) ls id el)) h
+      ≡ theScene (theState r (theStatus x c m l e) act q (theTransfer d o) (theWire Connected at false (Was p) ls id el)) h
       (theTarget talking pa log (flat (seg p bs y ∷ g)))
   unfolding steps
-  bus-named r x c m l e pd q d o at ls id el h pa log i (last k) = rw (lt-ltb _ 256 k, i, phase-round MessageIn)
-  bus-named r x c m l e pd q d o at ls id el h pa log i (more {p = ph} {b = b} f a z g) =
-      rw (phase-small ph, shown-byte (comesIn ph) b (f .bytes 0), i, phase-round ph, same-phase ph)
+  bus-named r x c m l e q d o at ls id el h pa log unasked (last k) = rw (lt-ltb _ 256 k, phase-round MessageIn)
+  bus-named r x c m l e q d o at ls id el h pa log told (last k) = rw (lt-ltb _ 256 k, phase-round MessageIn)
+  bus-named r x c m l e q d o at ls id el h pa log unasked (more {p = ph} {b = b} f a z g) =
+      rw (phase-small ph, shown-byte (comesIn ph) b (f .bytes 0), phase-round ph, same-phase ph)
+  bus-named r x c m l e q d o at ls id el h pa log told (more {p = ph} {b = b} f a z g) =
+      rw (phase-small ph, shown-byte (comesIn ph) b (f .bytes 0), phase-round ph, same-phase ph)
 
   -- a phase goes out
   give-on : {c m x pa el ow ct tm lu ph sy ds sr : ℕ} {l e at : Bool} {q : Fifo} {ls : Noted} {id : Kept} {cd y : List ℕ}
@@ -70,7 +74,7 @@ module _ (j : Job) (whole : List Item) (total : List Note) where
       → Going [] (b ∷ rest) (z ∷ give) y
       → Attends (byPhases j)
       (theScene
-      (theState (theRegisters ow ct tm cd lu ph sy (length (b ∷ rest) + length y) ds sr) (theStatus x c m l e Nothing) q (theTransfer TransferInfo Out false)
+      (theState (theRegisters ow ct tm cd lu ph sy (length (b ∷ rest) + length y) ds sr) (theStatus x c m l e) (Runs TransferInfo) q (theTransfer Out false)
       (theWire Connected at false (Was p) ls id el)) (theHost [] false p (z ∷ give) got n) (theTarget talking pa log (item p b ∷ t)))
   unfolding steps
   give-on {y = y} {p = p} z b rest give e k s =
@@ -91,7 +95,7 @@ module _ (j : Job) (whole : List Item) (total : List Note) where
       → Going fifo (b ∷ rest) give y
       → B
       (theScene
-      (theState (theRegisters ow ct tm cd lu ph sy (length (b ∷ rest) + length y) ds sr) (theStatus x c m l e Nothing) q (theTransfer TransferInfo Out false)
+      (theState (theRegisters ow ct tm cd lu ph sy (length (b ∷ rest) + length y) ds sr) (theStatus x c m l e) (Runs TransferInfo) q (theTransfer Out false)
       (theWire Connected at false (Was p) ls id el)) (theHost [] false p give got n) (theTarget talking pa log (item p b ∷ t)))
   unfolding steps
   send-on {y = y} {p = p} (z ∷ fifo) b rest give e k s =
@@ -111,7 +115,7 @@ module _ (j : Job) (whole : List Item) (total : List Note) where
       → b < 256
       → Attends (byPhases j)
       (theScene
-      (theState (theRegisters ow ct tm cd lu ph sy (length (b ∷ rest) + length y) ds sr) (theStatus x c m l e Nothing) q (theTransfer TransferInfo In false)
+      (theState (theRegisters ow ct tm cd lu ph sy (length (b ∷ rest) + length y) ds sr) (theStatus x c m l e) (Runs TransferInfo) q (theTransfer In false)
       (theWire Connected at false (Was p) ls id el)) (theHost [] false p v got n) (theTarget talking pa log (item p b ∷ t)))
   unfolding steps
   read-on {p = p} z u fifo b rest y e i k h =
@@ -143,7 +147,7 @@ module _ (j : Job) (whole : List Item) (total : List Note) where
       → b < 256
       → B
       (theScene
-      (theState (theRegisters ow ct tm cd lu ph sy (length (b ∷ rest) + length y) ds sr) (theStatus x c m l e Nothing) q (theTransfer TransferInfo In false)
+      (theState (theRegisters ow ct tm cd lu ph sy (length (b ∷ rest) + length y) ds sr) (theStatus x c m l e) (Runs TransferInfo) q (theTransfer In false)
       (theWire Connected at false (Was p) ls id el)) (theHost [] false p v got n) (theTarget talking pa log (item p b ∷ t)))
   unfolding steps
   take-on {p = p} [] b rest y e i k h = at-once (byPhases j) _ (rw (phase-small p, phase-round p, e, lt-ltb b 256 h, same-phase p, ne-eqb (suc (length rest) + length y) 0 (omega arith), room-is k, i))
@@ -160,7 +164,7 @@ module _ (j : Job) (whole : List Item) (total : List Note) where
       → Counted j whole total p rest r n
       → Good j whole total (seg p bs y ∷ g)
       → Attends (byPhases j)
-      (theScene (theState r (theStatus x c m l e Nothing) q (theTransfer Idle d o) (theWire Connected at false (Was p) ls id el))
+      (theScene (theState r (theStatus x c m l e) Idle q (theTransfer d o) (theWire Connected at false (Was p) ls id el))
       (theHost (put 0x18 0x20 ∷ []) f p (giveFor j p) got n) (theTarget talking pa log (flat (seg p bs y ∷ g))))
   unfolding steps
   command-on k (last h) =
@@ -187,16 +191,16 @@ module _ (j : Job) (whole : List Item) (total : List Note) where
       → Plays (put 0x18 0x20 ∷ []) (Counted j whole total p rest) td r n
       → Good j whole total (seg p bs y ∷ g)
       → B
-      (theScene (theState r (theStatus x c m l e Nothing) q (theTransfer Idle d o) (theWire Connected at false (Was p) ls id el))
+      (theScene (theState r (theStatus x c m l e) Idle q (theTransfer d o) (theWire Connected at false (Was p) ls id el))
       (theHost td f p (giveFor j p) got n) (theTarget talking pa log (flat (seg p bs y ∷ g))))
   unfolding scenes
-  code-on (over k) w = attend-at (byPhases j) (bus-named _ _ _ _ _ _ Nothing _ _ _ _ _ _ _ _ _ _ refl w) (command-on k w)
+  code-on (over k) w = attend-at (byPhases j) (bus-named _ _ _ _ _ _ _ _ _ _ _ _ _ _ _ _ unasked w) (command-on k w)
   code-on {c = c} {m = m} {x = x} {l = l} {e = e} {o = o} {f = f} {q = q} {d = d} {td = td} {r = r} {p = ph} {got = got} {n = n} (puts {a = a} {b = b} {l = k} u h p) w =
-      wait-at (byPhases j) _ _ (bus-named _ _ _ _ _ _ Nothing _ _ _ _ _ _ _ _ _ _ refl w) refl
-      (put-done r c m l e Nothing q d o _ refl (byPhases j) ph (giveFor j ph) got n _ x f td k a b u h) (code-on p w)
+      wait-at (byPhases j) _ _ (bus-named _ _ _ _ _ _ _ _ _ _ _ _ _ _ _ _ unasked w) refl
+      (put-done r c m l e Idle q d o _ refl (byPhases j) ph (giveFor j ph) got n _ x f td k a b u h) (code-on p w)
   code-on {c = c} {m = m} {x = x} {l = l} {e = e} {o = o} {f = f} {q = q} {d = d} {td = td} {r = r} {p = ph} {got = got} {n = n} (gets {a = a} {l = k} u p) w =
-      wait-at (byPhases j) _ _ (bus-named _ _ _ _ _ _ Nothing _ _ _ _ _ _ _ _ _ _ refl w) refl
-      (get-done r c m l e Nothing q d o _ refl (byPhases j) ph (giveFor j ph) got n _ x f td k a u) (code-on p w)
+      wait-at (byPhases j) _ _ (bus-named _ _ _ _ _ _ _ _ _ _ _ _ _ _ _ _ unasked w) refl
+      (get-done r c m l e Idle q d o _ refl (byPhases j) ph (giveFor j ph) got n _ x f td k a u) (code-on p w)
 
   -- a code that names a phase is read
   name-on : {c m x pa el : ℕ} {l e at o : Bool} {q : Fifo} {d : Direction} {ls : Noted} {id : Kept} {r : Registers}
@@ -205,7 +209,7 @@ module _ (j : Job) (whole : List Item) (total : List Note) where
       → Good j whole total (seg p bs y ∷ g)
       → Noting j whole total n (notesOf cr (r .count) ++ notesAfter (seg p bs y ∷ g))
       → Attends (byPhases j)
-      (theScene (theState r (theStatus x c m l e Interrupt) q (theTransfer Idle d o) (theWire Connected at false (Was p) ls id el))
+      (theScene (theState r (theStatus x c m l e) Interrupt q (theTransfer d o) (theWire Connected at false (Was p) ls id el))
       (theHost [] false cr v got n) (theTarget talking pa log (flat (seg p bs y ∷ g))))
   unfolding steps serving
   name-on {c = c} {r = r} {p = p} {cr = cr} {n = n} k w t =
@@ -215,15 +219,15 @@ module _ (j : Job) (whole : List Item) (total : List Note) where
       }
 
   -- in an ending every phase is Held
-  bus-ending : (r : Registers) (x c k m : ℕ) (l e : Bool) (q : Fifo) (tr : Transfer) (at ak : Bool) (rp ls : Noted) (id : Kept) (el : ℕ) (h : Host) (pa : ℕ) (log : List Item)
+  bus-ending : (r : Registers) (x c k m : ℕ) (l e : Bool) (run : Command) (q : Fifo) (tr : Transfer) (at ak : Bool) (rp ls : Noted) (id : Kept) (el : ℕ) (h : Host) (pa : ℕ) (log : List Item)
       {p : Phase} {bs y : List ℕ} {g : List Seg}
       → Good j whole total (seg p bs y ∷ g)
       → bus step (byPhases j)
-      (theScene (theState r (theStatus x c m l e (Ending k)) q tr (theWire Connected at ak rp ls id el)) h (theTarget talking pa log (flat (seg p bs y ∷ g))))
-      ≡ theScene (theState r (theStatus x c m l e (Ending k)) q tr (theWire Connected at ak rp ls id el)) h (theTarget talking pa log (flat (seg p bs y ∷ g)))
+      (theScene (theState r (theStatus x c m l e) (Ends run k) q tr (theWire Connected at ak rp ls id el)) h (theTarget talking pa log (flat (seg p bs y ∷ g))))
+      ≡ theScene (theState r (theStatus x c m l e) (Ends run k) q tr (theWire Connected at ak rp ls id el)) h (theTarget talking pa log (flat (seg p bs y ∷ g)))
   unfolding steps
-  bus-ending r x c i m l e q tr at ak rp ls id el h pa log (last k) = rw (lt-ltb _ 256 k)
-  bus-ending r x c i m l e q tr at ak rp ls id el h pa log (more {p = ph} {b = b} f a z g) =
+  bus-ending r x c i m l e run q tr at ak rp ls id el h pa log (last k) = rw (lt-ltb _ 256 k)
+  bus-ending r x c i m l e run q tr at ak rp ls id el h pa log (more {p = ph} {b = b} f a z g) =
       rw (phase-small ph, shown-byte (comesIn ph) b (f .bytes 0))
 
   -- the bytes that came in are read out, then the code is raised
@@ -236,7 +240,7 @@ module _ (j : Job) (whole : List Item) (total : List Note) where
       → Noting j whole total n (notesOf cr lf ++ notesAfter (seg p bs y ∷ g))
       → Attends (byPhases j)
       (theScene
-      (theState (theRegisters ow ct tm cd lu ph sy lf ds sr) (theStatus x c m l e (Ending k)) q (theTransfer TransferInfo In o)
+      (theState (theRegisters ow ct tm cd lu ph sy lf ds sr) (theStatus x c m l e) (Ends TransferInfo k) q (theTransfer In o)
       (theWire Connected at false (Was p) ls id el)) (theHost [] false cr v got n) (theTarget talking pa log (flat (seg p bs y ∷ g))))
   unfolding steps
   drain-on [] e k c w t =
@@ -244,20 +248,20 @@ module _ (j : Job) (whole : List Item) (total : List Note) where
         asks = rw (asked-is, empty-some k);
         on =
             rw (asked-is, empty-some k)
-            (rw e (rw (empty-some k, front-is k, empty-none (popped k)) (attend-at (byPhases j) (bus-named _ _ _ _ _ _ Interrupt _ _ _ _ _ _ _ _ _ _ refl w) (name-on c w t))));
+            (rw e (rw (empty-some k, front-is k, empty-none (popped k)) (attend-at (byPhases j) (bus-named _ _ _ _ _ _ _ _ _ _ _ _ _ _ _ _ told w) (name-on c w t))));
       }
   drain-on (z ∷ fifo) e k c w t =
       record {
         asks = rw (asked-is, empty-some k);
         on =
             rw (asked-is, empty-some k)
-            (rw e (rw (empty-some k, front-is k, empty-some (popped k)) (attend-at (byPhases j) (bus-ending _ _ _ _ _ _ _ _ _ _ _ _ _ _ _ _ _ _ w) (drain-on fifo e (popped k) c w t))));
+            (rw e (rw (empty-some k, front-is k, empty-some (popped k)) (attend-at (byPhases j) (bus-ending _ _ _ _ _ _ _ _ _ _ _ _ _ _ _ _ _ _ _ w) (drain-on fifo e (popped k) c w t))));
       }
 
   -- the selection
   select-on : {c m x pa el : ℕ} {l e at o f : Bool} {q : Fifo} {d : Direction} {rp ls : Noted} {id : Kept} {r : Registers} {n : List Note} {t : List Item}
       → B
-      (theScene (theState r (theStatus x c m l e Nothing) q (theTransfer Idle d o) (theWire Disconnected at false rp ls id el))
+      (theScene (theState r (theStatus x c m l e) Idle q (theTransfer d o) (theWire Disconnected at false rp ls id el))
       (theHost (put 0x18 0x06 ∷ []) f MessageOut [] [] n) (theTarget calling pa [] t))
   unfolding steps
   select-on = attend (byPhases j) _ (record { asks = refl; on = now refl })
@@ -266,16 +270,16 @@ module _ (j : Job) (whole : List Item) (total : List Note) where
       {n : List Note} {t : List Item}
       → Plays (put 0x18 0x06 ∷ []) (Ready j whole total) td r n
       → B
-      (theScene (theState r (theStatus x c m l e Nothing) q (theTransfer Idle d o) (theWire Disconnected at false rp ls id el))
+      (theScene (theState r (theStatus x c m l e) Idle q (theTransfer d o) (theWire Disconnected at false rp ls id el))
       (theHost td f MessageOut [] [] n) (theTarget calling pa [] t))
   unfolding scenes
   load-on (over g) = select-on
   load-on {c = c} {m = m} {x = x} {l = l} {e = e} {o = o} {f = f} {q = q} {d = d} {td = td} {r = r} {n = n} (puts {a = a} {b = b} {l = k} u h p) =
-      wait-at (byPhases j) _ _ (bus-idle (byPhases j) _ _ _ _ _ _ _ _ _ _ _ _ _) refl
-      (put-done r c m l e Nothing q d o _ refl (byPhases j) MessageOut [] [] n _ x f td k a b u h) (load-on p)
+      wait-at (byPhases j) _ _ (bus-idle (byPhases j) _ _ _ _ _ _ _ _ _ _ _ _ _ _) refl
+      (put-done r c m l e Idle q d o _ refl (byPhases j) MessageOut [] [] n _ x f td k a b u h) (load-on p)
   load-on {c = c} {m = m} {x = x} {l = l} {e = e} {o = o} {f = f} {q = q} {d = d} {td = td} {r = r} {n = n} (gets {a = a} {l = k} u p) =
-      wait-at (byPhases j) _ _ (bus-idle (byPhases j) _ _ _ _ _ _ _ _ _ _ _ _ _) refl
-      (get-done r c m l e Nothing q d o _ refl (byPhases j) MessageOut [] [] n _ x f td k a u) (load-on p)
+      wait-at (byPhases j) _ _ (bus-idle (byPhases j) _ _ _ _ _ _ _ _ _ _ _ _ _ _) refl
+      (get-done r c m l e Idle q d o _ refl (byPhases j) MessageOut [] [] n _ x f td k a u) (load-on p)
 
   -- the first phase is reported, after 11h
   wait-on : {c m x pa el : ℕ} {l e at o : Bool} {q : Fifo} {d : Direction} {ls : Noted} {id : Kept} {r : Registers} {g : List Seg} {n : List Note}
@@ -283,7 +287,7 @@ module _ (j : Job) (whole : List Item) (total : List Note) where
       → Good j whole total g
       → Noting j whole total n (notesAfter g)
       → B
-      (theScene (theState r (theStatus x c m l e Nothing) q (theTransfer Idle d o) (theWire Connected at false NoPhase ls id el))
+      (theScene (theState r (theStatus x c m l e) Idle q (theTransfer d o) (theWire Connected at false NoPhase ls id el))
       (theHost [] false MessageOut [] [] n) (theTarget talking pa [] (flat g)))
   unfolding steps
   wait-on unfixed (last h) t = attend (byPhases j) _ (rw (lt-ltb _ 256 h, phase-round MessageIn) (name-on S.asked (last h) t))
@@ -298,7 +302,7 @@ module _ (j : Job) (whole : List Item) (total : List Note) where
       → Good j whole total g
       → Noting j whole total n (notesAfter g)
       → Attends (byPhases j)
-      (theScene (theState r (theStatus x 0x11 m l e Interrupt) q (theTransfer Idle d o) (theWire Connected at false NoPhase ls id el))
+      (theScene (theState r (theStatus x 0x11 m l e) Interrupt q (theTransfer d o) (theWire Connected at false NoPhase ls id el))
       (theHost [] false MessageOut [] [] n) (theTarget talking pa [] (flat g)))
   unfolding steps
   greet-on k w t = record { asks = rw asked-is; on = rw asked-is (rw (heard-11 j) (wait-on k w t)) }
@@ -308,7 +312,7 @@ module _ (j : Job) (whole : List Item) (total : List Note) where
       → Good j whole total g
       → Noting j whole total n (notesAfter g)
       → B
-      (theScene (theState r (theStatus x 0x11 m l e Interrupt) q (theTransfer Idle d o) (theWire Connected at false NoPhase ls id el))
+      (theScene (theState r (theStatus x 0x11 m l e) Interrupt q (theTransfer d o) (theWire Connected at false NoPhase ls id el))
       (theHost [] false MessageOut [] [] n) (theTarget talking pa [] (flat g)))
   unfolding steps
   greet-held k (last h) t = attend (byPhases j) _ (rw (lt-ltb _ 256 h) (greet-on k (last h) t))
@@ -322,7 +326,7 @@ module _ (j : Job) (whole : List Item) (total : List Note) where
       → Noting j whole total n (notesOf p (length y) ++ notesAfter g)
       → B
       (theScene
-      (theState (theRegisters ow ct tm cd lu ph sy (0 + length y) ds sr) (theStatus x c m l e Nothing) q (theTransfer TransferInfo Out false)
+      (theState (theRegisters ow ct tm cd lu ph sy (0 + length y) ds sr) (theStatus x c m l e) (Runs TransferInfo) q (theTransfer Out false)
       (theWire Connected at false (Was p) ls id el)) (theHost [] false p v got n) (theTarget talking pa log (flat g)))
   unfolding steps
   next-on {p = p} y (next {q = q} {c = c} {cs = cs} {y = y′} {gs = gs} z d g) t =
@@ -338,7 +342,7 @@ module _ (j : Job) (whole : List Item) (total : List Note) where
       → Noting j whole total n (notesOf p (length y) ++ notesAfter g)
       → B
       (theScene
-      (theState (theRegisters ow ct tm cd lu ph sy (0 + length y) ds sr) (theStatus x c m l e Nothing) q (theTransfer TransferInfo In false)
+      (theState (theRegisters ow ct tm cd lu ph sy (0 + length y) ds sr) (theStatus x c m l e) (Runs TransferInfo) q (theTransfer In false)
       (theWire Connected at false (Was p) ls id el)) (theHost [] false p v got n) (theTarget talking pa log (flat g)))
   unfolding steps
   turn-on {p = p} [] y e k (next {q = q} {c = c} {cs = cs} {y = y′} {gs = gs} z d g) t =
@@ -354,7 +358,7 @@ module _ (j : Job) (whole : List Item) (total : List Note) where
   pause-on : {m x pa el : ℕ} {l e at o : Bool} {q : Fifo} {d : Direction} {rp ls : Noted} {id : Kept} {r : Registers} {v : List ℕ}
       {log got : List Item} {n : List Note} {hp : Phase}
       → B
-      (theScene (theState r (theStatus x 0x20 m l e Interrupt) q (theTransfer Idle d o) (theWire Connected at true rp ls id el))
+      (theScene (theState r (theStatus x 0x20 m l e) Interrupt q (theTransfer d o) (theWire Connected at true rp ls id el))
       (theHost [] false hp v got n) (theTarget talking pa log []))
   unfolding steps
   pause-on = attend (byPhases j) _ (record { asks = rw asked-is; on = rw asked-is (rw (heard-20 j) (now refl)) })
@@ -363,7 +367,7 @@ module _ (j : Job) (whole : List Item) (total : List Note) where
       {log got : List Item} {n : List Note}
       → Lined q (b ∷ [])
       → B
-      (theScene (theState r (theStatus x c m l e (Ending 0x20)) q (theTransfer TransferInfo In o) (theWire Connected at true rp ls id el))
+      (theScene (theState r (theStatus x c m l e) (Ends TransferInfo 0x20) q (theTransfer In o) (theWire Connected at true rp ls id el))
       (theHost [] false MessageIn v got n) (theTarget talking pa log []))
   unfolding steps
   close-on k =
@@ -377,7 +381,7 @@ module _ (j : Job) (whole : List Item) (total : List Note) where
       {log got : List Item} {n : List Note} {hp : Phase}
       → Quiet d q
       → B
-      (theScene (theState r (theStatus x c m l e Nothing) q (theTransfer Idle d o) (theWire Disconnected at false rp ls id el))
+      (theScene (theState r (theStatus x c m l e) Idle q (theTransfer d o) (theWire Disconnected at false rp ls id el))
       (theHost [] false hp v got n) (theTarget away pa log []))
   unfolding steps
   rest-on unfixed = at-once (byPhases j) _ (rw asked-is)
@@ -387,7 +391,7 @@ module _ (j : Job) (whole : List Item) (total : List Note) where
       {log got : List Item} {n : List Note} {hp : Phase}
       → Quiet d q
       → B
-      (theScene (theState r (theStatus x 0x85 m l e Interrupt) q (theTransfer Idle d o) (theWire Disconnected at false rp ls id el))
+      (theScene (theState r (theStatus x 0x85 m l e) Interrupt q (theTransfer d o) (theWire Disconnected at false rp ls id el))
       (theHost [] false hp v got n) (theTarget away pa log []))
   unfolding steps
   free-on k = attend (byPhases j) _ (record { asks = rw asked-is; on = rw asked-is (rw (heard-85 j) (rest-on k)) })
@@ -396,7 +400,7 @@ module _ (j : Job) (whole : List Item) (total : List Note) where
       {log got : List Item} {n : List Note} {hp : Phase}
       → Quiet d q
       → B
-      (theScene (theState r (theStatus x 0x85 m l e Interrupt) q (theTransfer Idle d o) (theWire Disconnected at false rp ls id el))
+      (theScene (theState r (theStatus x 0x85 m l e) Interrupt q (theTransfer d o) (theWire Disconnected at false rp ls id el))
       (theHost (put 0x18 0x03 ∷ []) f hp v got n) (theTarget away pa log []))
   unfolding steps
   late-on k = attend (byPhases j) _ (record { asks = refl; on = free-on k })
@@ -408,7 +412,7 @@ module _ (j : Job) (whole : List Item) (total : List Note) where
   begins-on (greets p q g n w) = any-poll (byPhases j) _ _ _ _ _ _ _ _ _ p (greet-held q g n)
   begins-on (waits p q g n w) = any-poll (byPhases j) _ _ _ _ _ _ _ _ _ p (wait-on q g n)
   begins-on (named p q k g v n i w) =
-      any-poll (byPhases j) _ _ _ _ _ _ _ _ _ p (attend-at (byPhases j) (bus-named _ _ _ _ _ _ Interrupt _ _ _ _ _ _ _ _ _ _ refl g) (name-on k g n))
+      any-poll (byPhases j) _ _ _ _ _ _ _ _ _ p (attend-at (byPhases j) (bus-named _ _ _ _ _ _ _ _ _ _ _ _ _ _ _ _ told g) (name-on k g n))
   begins-on (S.coded p a q g i w) = code-on p g
 
   sends-on : {c : Scene} → Sends j whole total c → B c
@@ -425,9 +429,9 @@ module _ (j : Job) (whole : List Item) (total : List Note) where
 
   drains-on : {c : Scene} → Drains j whole total c → B c
   drains-on (drains fifo p e l k g v n i w) =
-      any-poll (byPhases j) _ _ _ _ _ _ _ _ _ p (attend-at (byPhases j) (bus-ending _ _ _ _ _ _ _ _ _ _ _ _ _ _ _ _ _ _ g) (drain-on fifo e l k g n))
+      any-poll (byPhases j) _ _ _ _ _ _ _ _ _ p (attend-at (byPhases j) (bus-ending _ _ _ _ _ _ _ _ _ _ _ _ _ _ _ _ _ _ _ g) (drain-on fifo e l k g n))
 
-  ends-on : {c : Scene} → Ends j whole total c → B c
+  ends-on : {c : Scene} → S.Ends j whole total c → B c
   unfolding steps
   ends-on (pauses p l v n i w) = any-poll (byPhases j) _ _ _ _ _ _ _ _ _ p (close-on l)
   ends-on (paused p q v n i w) = any-poll (byPhases j) _ _ _ _ _ _ _ _ _ p pause-on

@@ -11,14 +11,12 @@ use lib.ListN.{length, set, getD}
 use lib.Seq.{set-append-seam}
 use borrow.Author.Tests.{lt-ltb, ne-eqb}
 use Rattle.chip.proofs.Sizes.{size-most}
-use Rattle.chip.proofs.Cases.{either-first, either-rest}
-use Rattle.chip.proofs.Numbers.{is-idle}
-use Rattle.chip.specs.Choice.{pick, either}
+use Rattle.chip.proofs.Activities.{rests}
+use Rattle.chip.specs.Choice.{pick}
 use Rattle.chip.specs.State.{fresh}
 use Rattle.chip.specs.Lines.{bit, isOn}
 use Rattle.chip.specs.Fifo.{isEmpty}
-use Rattle.chip.specs.Interrupts.{isInterrupt, isEnding, busy}
-use Rattle.chip.specs.Running.{isRunning}
+use Rattle.chip.specs.Interrupts.{busy}
 use Rattle.chip.specs.Calls.{Call, step, run}
 use Rattle.chip.specs.Registers.{storedIn}
 use Rattle.chip.specs.declared.State.{State}
@@ -27,15 +25,13 @@ use Rattle.chip.specs.declared.Fifo.{Fifo}
 use Rattle.chip.specs.declared.Noted.{Noted}
 use Rattle.chip.specs.declared.Connection.{Connection}
 use Rattle.chip.specs.declared.Connection.the-variants.{Disconnected}
-use Rattle.chip.specs.declared.Running.{Running}
-use Rattle.chip.specs.declared.Running.the-variants.{Idle}
-use Rattle.chip.specs.declared.Pending.{Pending}
-use Rattle.chip.specs.declared.Pending.the-variants.{Nothing, Interrupt, Ending, ReadOut}
+use Rattle.chip.specs.declared.Activity.{Activity}
+use Rattle.chip.specs.declared.Activity.the-variants.{Idle}
 use Rattle.chip.specs.declared.Direction.{Direction}
 use Rattle.chip.specs.declared.Direction.the-variants.{Unfixed, In, Out}
 use Rattle.chip.specs.Ok.{Bytes}
 use Rattle.chip.specs.Interrupts.{isOutgoing}
-use Rattle.reached.specs.Sound.{Sound, Shape, with-atn, without-atn, select-and-transfer, transfer-info, joined}
+use Rattle.reached.specs.Sound.{Sound, Shape, joined}
 use Rattle.reached.specs.Sound as Sound
 use Rattle.reached.proofs.Laws.{reached}
 use Rattle.story.specs.Story.{Item, Job, loaded, Proper}
@@ -49,21 +45,11 @@ use Rattle.served.proofs.TransferScenes as A
 use Rattle.served.proofs.PhaseScenes as B
 
 pub record Apart (s : State) : Type 0 where
-  pub pending : s .status .pending ≡ Nothing
-  pub running : s .transfer .running ≡ Idle
+  pub activity : s .activity ≡ Idle
   pub connection : s .wire .connection ≡ Disconnected
   pub ack : s .wire .handshake .ack ≡ false
   pub quiet : Quiet (s .transfer .direction) (s .fifo)
   pub cdb : length (s .registers .descriptor .cdb) ≡ 12
-
-no-pending : (p : Pending) (r : Running) → isInterrupt p ≡ false → either (isRunning r) (isEnding p) ≡ false → p ≡ Nothing
-no-pending Nothing r e f = refl
-no-pending Interrupt r e f = absurd (true≢false e)
-no-pending (Ending k) r e f = absurd (true≢false (either-rest (isRunning r) true f))
-no-pending ReadOut r e f = absurd (true≢false (either-rest (isRunning r) true f))
-
-no-command : (r : Running) (t : Bool) → either (isRunning r) t ≡ false → r ≡ Idle
-no-command r t e = is-idle r (either-first (isRunning r) t e)
 
 quiet-way : (d : Direction) {q : Fifo} → isOutgoing d ≡ false → isEmpty q ≡ true → Quiet d q
 quiet-way Unfixed e f = unfixed
@@ -75,27 +61,23 @@ record Calm (d : Direction) (q : Fifo) (k : Bool) : Type 0 where
   quiet : Quiet d q
   ack : k ≡ false
 
-calm : {single : Bool} {n : ℕ} {p : Pending} {r : Running} {c : Connection} {d : Direction} {q : Fifo} {atn ack : Bool} {w : Noted}
-    → Shape single n p r c d q atn ack w → r ≡ Idle → c ≡ Disconnected → Calm d q ack
+calm : {single : Bool} {n : ℕ} {x : Activity} {c : Connection} {d : Direction} {q : Fifo} {atn ack : Bool} {w : Noted}
+    → Shape single n x c d q atn ack w → x ≡ Idle → c ≡ Disconnected → Calm d q ack
 calm {d = d} (Sound.idle e f g Sound.apart) h k = record { quiet = quiet-way d f g; ack = refl }
 calm (Sound.idle e f g joined) h k = let z : _≡_ {A = ℕ} 0 1 = cc in absurd (omega arith)
 calm (Sound.selects x f g) h k = let z : _≡_ {A = ℕ} 0 1 = cc in absurd (omega arith)
 calm (Sound.waits x y) h k = let z : _≡_ {A = ℕ} 0 1 = cc in absurd (omega arith)
 calm (Sound.selectsAndTransfers x y) h k = let z : _≡_ {A = ℕ} 0 1 = cc in absurd (omega arith)
 calm (Sound.transfersInfo x y) h k = let z : _≡_ {A = ℕ} 0 1 = cc in absurd (omega arith)
-calm (Sound.ending (select-and-transfer with-atn) x y) h k = let z : _≡_ {A = ℕ} 0 1 = cc in absurd (omega arith)
-calm (Sound.ending (select-and-transfer without-atn) x y) h k = let z : _≡_ {A = ℕ} 0 1 = cc in absurd (omega arith)
-calm (Sound.ending transfer-info x y) h k = let z : _≡_ {A = ℕ} 0 1 = cc in absurd (omega arith)
-calm (Sound.readOut with-atn x) h k = let z : _≡_ {A = ℕ} 0 1 = cc in absurd (omega arith)
-calm (Sound.readOut without-atn x) h k = let z : _≡_ {A = ℕ} 0 1 = cc in absurd (omega arith)
+calm (Sound.ending x y l) h k = let z : _≡_ {A = ℕ} 0 1 = cc in absurd (omega arith)
+calm (Sound.readOut x y) h k = let z : _≡_ {A = ℕ} 0 1 = cc in absurd (omega arith)
 
 of-sound : (s : State) → Sound s → Start s → Apart s
 unfolding busy
 of-sound s g t =
-    let p = no-pending (s .status .pending) (s .transfer .running) (t .read) (t .idle) in
-    let r = no-command (s .transfer .running) _ (t .idle) in
+    let r = rests (s .activity) (t .read) (t .idle) in
     let k = calm (g .shape) r (t .apart) in
-    record { pending = p; running = r; connection = t .apart; ack = k .ack; quiet = k .quiet; cdb = g .ok .cdb-long }
+    record { activity = r; connection = t .apart; ack = k .ack; quiet = k .quiet; cdb = g .ok .cdb-long }
 
 pub apart : (l : List Call) → Start (run step l fresh) → Apart (run step l fresh)
 apart l t = of-sound (run step l fresh) (reached l) t

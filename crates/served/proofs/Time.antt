@@ -1,29 +1,25 @@
 -- Time that passes: while nobody is being selected it changes nothing, and during a selection it stays within the timeout.
 --   still    the scene stays as it is
 --   Spared   time is left: no timeout, or what has passed and the Target's patience are within it
-use mathlib.Core.Path.{_≡_, refl, sym, _∙_, ap, subst}
-use mathlib.Core.Bool.{false, true≢false}
+use mathlib.Core.Path.{_≡_, sym, _∙_, ap, subst}
+use mathlib.Core.Bool.{false}
 use mathlib.Core.Logic.{_⊎_, inl, inr, ⊎-elim}
 use Prim.Native.Nat.{ℕ, _+_, _-_, _≤_, _<_}
 use native.Mathlib.Omega.{arith}
 use lib.Dec.{ltb}
-use Rattle.chip.specs.Choice.{pick}
-use Rattle.chip.specs.Events.{passed}
+use Rattle.chip.specs.Choice.{pick, both}
+use Rattle.chip.specs.Events.{selects, passed}
 use Rattle.chip.specs.Connections.{isSelecting}
 use Rattle.chip.specs.Calls.{time, isGood, carried, step}
-use Rattle.chip.specs.declared.Reply.{Reply}
 use Rattle.chip.specs.declared.State.{State}
 use Rattle.story.specs.Hosts.{Host, Program}
 use Rattle.story.specs.Schedule.{Target, passing, elapsing}
 use Rattle.served.proofs.Parts.{theScene}
-use Rattle.chip.proofs.Cases.{true-or-false, by-pick, by-case, passed-over}
+use Rattle.chip.proofs.Cases.{true-or-false, passed-over}
 
 pass-still : (n : ℕ) (s : State) → isSelecting (s .wire .connection) ≡ false → passed n s .state ≡ s
-unfolding passed
-pass-still n s f = by-pick Stays _ refl (by-case Stays _ (λ e. absurd (true≢false (sym e ∙ f))) (λ e. refl))
-  where
-    Stays : Reply → Type 0
-    Stays r = r .state ≡ s
+unfolding passed selects both pick
+pass-still n s f = rw f
 
 time-still : (n : ℕ) (s : State) → isSelecting (s .wire .connection) ≡ false → step (time n) s .state ≡ s
 unfolding step isGood carried pick

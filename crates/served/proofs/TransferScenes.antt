@@ -16,8 +16,8 @@ use Rattle.chip.specs.declared.Registers.{Registers}
 use Rattle.chip.specs.declared.Fifo.{Fifo}
 use Rattle.chip.specs.declared.Stage.the-variants.{Body, AfterData}
 use Rattle.chip.specs.declared.Connection.the-variants.{Disconnected, Selecting, Connected}
-use Rattle.chip.specs.declared.Running.the-variants.{Idle, SelectAndTransferWithAtn}
-use Rattle.chip.specs.declared.Pending.the-variants.{Nothing, Interrupt, Ending}
+use Rattle.chip.specs.declared.Command.the-variants.{SelectAndTransferWithAtn}
+use Rattle.chip.specs.declared.Activity.the-variants.{Idle, Interrupt, Runs, Ends}
 use Rattle.chip.specs.declared.Direction.{Direction}
 use Rattle.chip.specs.declared.Direction.the-variants.{Unfixed, In, Out}
 use Rattle.chip.specs.declared.Noted.{Noted}
@@ -99,7 +99,7 @@ module _ (j : Job) where
         → Spared (j .timeout) 0 pa
         → Bytes v
         → Reach
-        (theScene (theState r (theStatus x c m l e Nothing) q (theTransfer Idle d o) (theWire Disconnected at false rp ls id el))
+        (theScene (theState r (theStatus x c m l e) Idle q (theTransfer d o) (theWire Disconnected at false rp ls id el))
         (theHost td f (wayPhase w) v [] n) (theTarget calling pa [] (storyOf w)))
     seeks : {c m x pa el ow ct tm lu sy ds sr : ℕ} {l e at f : Bool} {rp ls : Noted} {id : Kept} {td : List Access} {cd v : List ℕ} {w : Way}
         → Set cd lu sr
@@ -109,7 +109,7 @@ module _ (j : Job) where
         → Bytes v
         → Reach
         (theScene
-        (theState (theRegisters ow ct tm cd lu 0x00 sy (loaded j) ds sr) (theStatus x c m l e Nothing) empty (theTransfer SelectAndTransferWithAtn Unfixed false)
+        (theState (theRegisters ow ct tm cd lu 0x00 sy (loaded j) ds sr) (theStatus x c m l e) (Runs SelectAndTransferWithAtn) empty (theTransfer Unfixed false)
         (theWire Selecting at false rp ls id el)) (theHost td f (wayPhase w) v [] []) (theTarget calling pa [] (storyOf w)))
     greets : {c m x pa el ow ct tm lu sy ds sr : ℕ} {l e at f : Bool} {rp ls : Noted} {id : Kept} {td : List Access} {cd v : List ℕ} {w : Way}
         → Set cd lu sr
@@ -118,7 +118,7 @@ module _ (j : Job) where
         → Bytes v
         → Reach
         (theScene
-        (theState (theRegisters ow ct tm cd lu 0x10 sy (loaded j) ds sr) (theStatus x c m l e Nothing) empty (theTransfer SelectAndTransferWithAtn Unfixed false)
+        (theState (theRegisters ow ct tm cd lu 0x10 sy (loaded j) ds sr) (theStatus x c m l e) (Runs SelectAndTransferWithAtn) empty (theTransfer Unfixed false)
         (theWire Connected at false rp ls id el)) (theHost td f (wayPhase w) v [] []) (theTarget talking pa [] (storyOf w)))
     commands : {c m x pa el ow ct tm lu sy ds sr ph : ℕ} {l e at f : Bool} {rp ls : Noted} {id : Kept} {td : List Access} {cd v : List ℕ} {w : Way}
         {log : List Item} (had rest d : List ℕ)
@@ -131,8 +131,8 @@ module _ (j : Job) where
         → Tale (story j) log (items CommandOut rest ++ (items (wayPhase w) d ++ close j))
         → Reach
         (theScene
-        (theState (theRegisters ow ct tm cd lu ph sy (length d + length (j .beyond)) ds sr) (theStatus x c m l e Nothing) empty
-        (theTransfer SelectAndTransferWithAtn Unfixed false) (theWire Connected at false rp ls id el)) (theHost td f (wayPhase w) v [] [])
+        (theState (theRegisters ow ct tm cd lu ph sy (length d + length (j .beyond)) ds sr) (theStatus x c m l e) (Runs SelectAndTransferWithAtn) empty
+        (theTransfer Unfixed false) (theWire Connected at false rp ls id el)) (theHost td f (wayPhase w) v [] [])
         (theTarget talking pa log (items CommandOut rest ++ (items (wayPhase w) d ++ close j))))
     comes : {c m x pa el ow ct tm lu sy ds sr ph : ℕ} {l e at f : Bool} {rp ls : Noted} {id : Kept} {td : List Access} {cd : List ℕ}
         {log got : List Item} {q : Fifo} (fifo rest : List ℕ)
@@ -145,8 +145,8 @@ module _ (j : Job) where
         → Tale (story j) log (items DataIn rest ++ close j)
         → Reach
         (theScene
-        (theState (theRegisters ow ct tm cd lu ph sy (length rest + length (j .beyond)) ds sr) (theStatus x c m l e Nothing) q
-        (theTransfer SelectAndTransferWithAtn In false) (theWire Connected at false rp ls id el)) (theHost td f DataIn [] got [])
+        (theState (theRegisters ow ct tm cd lu ph sy (length rest + length (j .beyond)) ds sr) (theStatus x c m l e) (Runs SelectAndTransferWithAtn) q
+        (theTransfer In false) (theWire Connected at false rp ls id el)) (theHost td f DataIn [] got [])
         (theTarget talking pa log (items DataIn rest ++ close j)))
     goes : {c m x pa el ow ct tm lu sy ds sr ph : ℕ} {l e at f : Bool} {rp ls : Noted} {id : Kept} {td : List Access} {cd : List ℕ}
         {log : List Item} {q : Fifo} (fifo rest give : List ℕ)
@@ -159,8 +159,8 @@ module _ (j : Job) where
         → Tale (story j) log (items DataOut rest ++ close j)
         → Reach
         (theScene
-        (theState (theRegisters ow ct tm cd lu ph sy (length rest + length (j .beyond)) ds sr) (theStatus x c m l e Nothing) q
-        (theTransfer SelectAndTransferWithAtn Out false) (theWire Connected at false rp ls id el)) (theHost td f DataOut give [] [])
+        (theState (theRegisters ow ct tm cd lu ph sy (length rest + length (j .beyond)) ds sr) (theStatus x c m l e) (Runs SelectAndTransferWithAtn) q
+        (theTransfer Out false) (theWire Connected at false rp ls id el)) (theHost td f DataOut give [] [])
         (theTarget talking pa log (items DataOut rest ++ close j)))
     statuses : {c m x pa el ow ct tm sy ds sr n : ℕ} {l e at f wt : Bool} {rp ls : Noted} {id : Kept} {td : List Access} {cd v : List ℕ} {hp : Phase}
         {log got : List Item} {q : Fifo} {d : Direction}
@@ -171,7 +171,7 @@ module _ (j : Job) where
         → Tale (story j) log (item MessageIn 0x00 ∷ [])
         → Reach
         (theScene
-        (theState (theRegisters ow ct tm cd (j .status) 0x50 sy n ds sr) (theStatus x c m l e Nothing) q (theTransfer SelectAndTransferWithAtn d false)
+        (theState (theRegisters ow ct tm cd (j .status) 0x50 sy n ds sr) (theStatus x c m l e) (Runs SelectAndTransferWithAtn) q (theTransfer d false)
         (theWire Connected at false rp ls id el)) (theHost td f hp v got []) (theTarget talking pa log (item MessageIn 0x00 ∷ [])))
     ends : {c m x pa el ow ct tm sy ds sr n b : ℕ} {l e at f : Bool} {rp ls : Noted} {id : Kept} {td : List Access} {cd v : List ℕ}
         {got : List Item} {q : Fifo} (fifo : List ℕ)
@@ -183,7 +183,7 @@ module _ (j : Job) where
         → n ≡ length (j .beyond)
         → Reach
         (theScene
-        (theState (theRegisters ow ct tm cd (j .status) 0x60 sy n ds sr) (theStatus x c m l e (Ending 0x16)) q (theTransfer SelectAndTransferWithAtn In false)
+        (theState (theRegisters ow ct tm cd (j .status) 0x60 sy n ds sr) (theStatus x c m l e) (Ends SelectAndTransferWithAtn 0x16) q (theTransfer In false)
         (theWire Connected at false rp ls id el)) (theHost td f DataIn v got []) (theTarget talking pa (story j) []))
     told : {m x pa el ow ct tm sy ds sr n : ℕ} {l e at f o : Bool} {rp ls : Noted} {id : Kept} {td : List Access} {cd v : List ℕ} {hp : Phase}
         {got : List Item} {q : Fifo} {d : Direction}
@@ -194,7 +194,7 @@ module _ (j : Job) where
         → n ≡ length (j .beyond)
         → Reach
         (theScene
-        (theState (theRegisters ow ct tm cd (j .status) 0x60 sy n ds sr) (theStatus x 0x16 m l e Interrupt) q (theTransfer Idle d o)
+        (theState (theRegisters ow ct tm cd (j .status) 0x60 sy n ds sr) (theStatus x 0x16 m l e) Interrupt q (theTransfer d o)
         (theWire Connected at false rp ls id el)) (theHost td f hp v got []) (theTarget talking pa (story j) []))
     calm : {c m x pa el : ℕ} {l e at f o : Bool} {rp ls : Noted} {id : Kept} {td : List Access} {v : List ℕ} {hp : Phase} {got : List Item}
         {q : Fifo} {d : Direction} {r : Registers} {n : List Note}
@@ -203,7 +203,7 @@ module _ (j : Job) where
         → got ≡ items DataIn (incomingData (j .way) (j .moved))
         → Bytes v
         → Reach
-        (theScene (theState r (theStatus x c m l e Nothing) q (theTransfer Idle d o) (theWire Connected at false rp ls id el))
+        (theScene (theState r (theStatus x c m l e) Idle q (theTransfer d o) (theWire Connected at false rp ls id el))
         (theHost td f hp v got n) (theTarget talking pa (story j) []))
     gone : {m x pa el : ℕ} {l e at f o : Bool} {rp ls : Noted} {id : Kept} {td : List Access} {v : List ℕ} {hp : Phase} {got : List Item}
         {q : Fifo} {d : Direction} {r : Registers} {n : List Note}
@@ -212,7 +212,7 @@ module _ (j : Job) where
         → got ≡ items DataIn (incomingData (j .way) (j .moved))
         → Bytes v
         → Reach
-        (theScene (theState r (theStatus x 0x85 m l e Interrupt) q (theTransfer Idle d o) (theWire Disconnected at false rp ls id el))
+        (theScene (theState r (theStatus x 0x85 m l e) Interrupt q (theTransfer d o) (theWire Disconnected at false rp ls id el))
         (theHost td f hp v got n) (theTarget away pa (story j) []))
     rests : {c m x pa el : ℕ} {l e at f o : Bool} {rp ls : Noted} {id : Kept} {td : List Access} {v : List ℕ} {hp : Phase} {got : List Item}
         {q : Fifo} {d : Direction} {r : Registers} {n : List Note}
@@ -222,5 +222,5 @@ module _ (j : Job) where
         → got ≡ items DataIn (incomingData (j .way) (j .moved))
         → Bytes v
         → Reach
-        (theScene (theState r (theStatus x c m l e Nothing) q (theTransfer Idle d o) (theWire Disconnected at false rp ls id el))
+        (theScene (theState r (theStatus x c m l e) Idle q (theTransfer d o) (theWire Disconnected at false rp ls id el))
         (theHost td f hp v got n) (theTarget away pa (story j) []))

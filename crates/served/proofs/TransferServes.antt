@@ -22,8 +22,8 @@ use Rattle.chip.specs.declared.Registers.{Registers}
 use Rattle.chip.specs.declared.Stage.the-variants.{Body}
 use Rattle.chip.specs.declared.Fifo.{Fifo}
 use Rattle.chip.specs.declared.Connection.the-variants.{Disconnected, Connected}
-use Rattle.chip.specs.declared.Running.the-variants.{Idle, SelectAndTransferWithAtn}
-use Rattle.chip.specs.declared.Pending.the-variants.{Nothing, Interrupt, Ending}
+use Rattle.chip.specs.declared.Command.the-variants.{SelectAndTransferWithAtn}
+use Rattle.chip.specs.declared.Activity.the-variants.{Idle, Interrupt, Runs, Ends}
 use Rattle.chip.specs.declared.Direction.{Direction}
 use Rattle.chip.specs.declared.Direction.the-variants.{Unfixed, In, Out}
 use Rattle.chip.specs.declared.Noted.{Noted}
@@ -55,7 +55,7 @@ module _ {s₀ : State} (j : Job) (pr : Proper s₀ j) where
       {v : List ℕ} {n : List Note} {hp : Phase} {t : List Item}
       → Ready j r n
       → B
-      (theScene (theState r (theStatus x c m l e Nothing) q (theTransfer Idle d o) (theWire Disconnected at false rp ls id el))
+      (theScene (theState r (theStatus x c m l e) Idle q (theTransfer d o) (theWire Disconnected at false rp ls id el))
       (theHost (put 0x18 0x08 ∷ []) f hp v [] n) (theTarget calling pa [] t))
   unfolding steps
   command-on {r = r} g =
@@ -65,16 +65,16 @@ module _ {s₀ : State} (j : Job) (pr : Proper s₀ j) where
       {v : List ℕ} {n : List Note} {hp : Phase} {t : List Item}
       → Plays (put 0x18 0x08 ∷ []) (Ready j) td r n
       → B
-      (theScene (theState r (theStatus x c m l e Nothing) q (theTransfer Idle d o) (theWire Disconnected at false rp ls id el))
+      (theScene (theState r (theStatus x c m l e) Idle q (theTransfer d o) (theWire Disconnected at false rp ls id el))
       (theHost td f hp v [] n) (theTarget calling pa [] t))
   unfolding scenes
   load-on (over g) = command-on g
   load-on {c = c} {m = m} {x = x} {l = l} {e = e} {o = o} {f = f} {q = q} {d = d} {td = td} {r = r} {v = v} {n = n} {hp = hp} (puts {a = a} {b = b} {l = k} u h p) =
-      wait-at (byTransfer j) _ _ (bus-idle (byTransfer j) _ _ _ _ _ _ _ _ _ _ _ _ _) refl
-      (put-done r c m l e Nothing q d o _ refl (byTransfer j) hp v [] n _ x f td k a b u h) (load-on p)
+      wait-at (byTransfer j) _ _ (bus-idle (byTransfer j) _ _ _ _ _ _ _ _ _ _ _ _ _ _) refl
+      (put-done r c m l e Idle q d o _ refl (byTransfer j) hp v [] n _ x f td k a b u h) (load-on p)
   load-on {c = c} {m = m} {x = x} {l = l} {e = e} {o = o} {f = f} {q = q} {d = d} {td = td} {r = r} {v = v} {n = n} {hp = hp} (gets {a = a} {l = k} u p) =
-      wait-at (byTransfer j) _ _ (bus-idle (byTransfer j) _ _ _ _ _ _ _ _ _ _ _ _ _) refl
-      (get-done r c m l e Nothing q d o _ refl (byTransfer j) hp v [] n _ x f td k a u) (load-on p)
+      wait-at (byTransfer j) _ _ (bus-idle (byTransfer j) _ _ _ _ _ _ _ _ _ _ _ _ _ _) refl
+      (get-done r c m l e Idle q d o _ refl (byTransfer j) hp v [] n _ x f td k a u) (load-on p)
 
   -- the first byte goes into the FIFO, and is taken from there
   give-on : {c m x pa el ow ct tm lu sy ds sr ph : ℕ} {l e at : Bool} {rp ls : Noted} {id : Kept} {cd : List ℕ} {log t : List Item} {q : Fifo}
@@ -84,8 +84,8 @@ module _ {s₀ : State} (j : Job) (pr : Proper s₀ j) where
       → Going [] (z ∷ rest) (y ∷ give) (j .beyond)
       → Attends (byTransfer j)
       (theScene
-      (theState (theRegisters ow ct tm cd lu ph sy (length (z ∷ rest) + length (j .beyond)) ds sr) (theStatus x c m l e Nothing) q
-      (theTransfer SelectAndTransferWithAtn Out false) (theWire Connected at false rp ls id el)) (theHost [] false DataOut (y ∷ give) [] [])
+      (theState (theRegisters ow ct tm cd lu ph sy (length (z ∷ rest) + length (j .beyond)) ds sr) (theStatus x c m l e) (Runs SelectAndTransferWithAtn) q
+      (theTransfer Out false) (theWire Connected at false rp ls id el)) (theHost [] false DataOut (y ∷ give) [] [])
       (theTarget talking pa log (item DataOut z ∷ t)))
   unfolding steps phaseOf
   give-on y z rest give n s i =
@@ -107,8 +107,8 @@ module _ {s₀ : State} (j : Job) (pr : Proper s₀ j) where
       → had ++ rest ≡ j .command
       → B
       (theScene
-      (theState (theRegisters ow ct tm cd lu ph sy (length d + length (j .beyond)) ds sr) (theStatus x c m l e Nothing) empty
-      (theTransfer SelectAndTransferWithAtn Unfixed false) (theWire Connected at false rp ls id el)) (theHost [] false (wayPhase w) v [] [])
+      (theState (theRegisters ow ct tm cd lu ph sy (length d + length (j .beyond)) ds sr) (theStatus x c m l e) (Runs SelectAndTransferWithAtn) empty
+      (theTransfer Unfixed false) (theWire Connected at false rp ls id el)) (theHost [] false (wayPhase w) v [] [])
       (theTarget talking pa log (items CommandOut rest ++ (items (wayPhase w) d ++ close j))))
   unfolding steps phaseOf
   commands-on {ph = ph} had (x ∷ rest) d s h b q e = at-once (byTransfer j) _ (rw (next-is j pr ph had x rest s q e))
@@ -130,8 +130,8 @@ module _ {s₀ : State} (j : Job) (pr : Proper s₀ j) where
       → b < 256
       → Attends (byTransfer j)
       (theScene
-      (theState (theRegisters ow ct tm cd lu ph sy (length (b ∷ rest) + length (j .beyond)) ds sr) (theStatus x c m l e Nothing) q
-      (theTransfer SelectAndTransferWithAtn In false) (theWire Connected at false rp ls id el)) (theHost [] false DataIn [] got [])
+      (theState (theRegisters ow ct tm cd lu ph sy (length (b ∷ rest) + length (j .beyond)) ds sr) (theStatus x c m l e) (Runs SelectAndTransferWithAtn) q
+      (theTransfer In false) (theWire Connected at false rp ls id el)) (theHost [] false DataIn [] got [])
       (theTarget talking pa log (item DataIn b ∷ t)))
   unfolding steps phaseOf
   take-on y z fifo b rest n s h =
@@ -158,8 +158,8 @@ module _ {s₀ : State} (j : Job) (pr : Proper s₀ j) where
       → Expects ph (sizeOf (getD cd 0 0)) (length rest + length (j .beyond))
       → B
       (theScene
-      (theState (theRegisters ow ct tm cd lu ph sy (length rest + length (j .beyond)) ds sr) (theStatus x c m l e Nothing) q
-      (theTransfer SelectAndTransferWithAtn In false) (theWire Connected at false rp ls id el)) (theHost [] false DataIn [] got [])
+      (theState (theRegisters ow ct tm cd lu ph sy (length rest + length (j .beyond)) ds sr) (theStatus x c m l e) (Runs SelectAndTransferWithAtn) q
+      (theTransfer In false) (theWire Connected at false rp ls id el)) (theHost [] false DataIn [] got [])
       (theTarget talking pa log (items DataIn rest ++ close j)))
   unfolding steps phaseOf
   come-on fifo [] n i (body s) = at-once (byTransfer j) _ (rw (s, lt-ltb (j .status) 256 (pr .status-byte)))
@@ -186,8 +186,8 @@ module _ {s₀ : State} (j : Job) (pr : Proper s₀ j) where
       → Expects ph (sizeOf (getD cd 0 0)) (length rest + length (j .beyond))
       → B
       (theScene
-      (theState (theRegisters ow ct tm cd lu ph sy (length rest + length (j .beyond)) ds sr) (theStatus x c m l e Nothing) q
-      (theTransfer SelectAndTransferWithAtn Out false) (theWire Connected at false rp ls id el)) (theHost [] false DataOut give [] [])
+      (theState (theRegisters ow ct tm cd lu ph sy (length rest + length (j .beyond)) ds sr) (theStatus x c m l e) (Runs SelectAndTransferWithAtn) q
+      (theTransfer Out false) (theWire Connected at false rp ls id el)) (theHost [] false DataOut give [] [])
       (theTarget talking pa log (items DataOut rest ++ close j)))
   unfolding steps phaseOf
   go-on fifo [] give n i (body s) = at-once (byTransfer j) _ (rw (s, lt-ltb (j .status) 256 (pr .status-byte)))
@@ -205,7 +205,7 @@ module _ {s₀ : State} (j : Job) (pr : Proper s₀ j) where
       {q : Fifo} {d : Direction}
       → B
       (theScene
-      (theState (theRegisters ow ct tm cd (j .status) 0x60 sy n ds sr) (theStatus x 0x16 m l e Interrupt) q (theTransfer Idle d o)
+      (theState (theRegisters ow ct tm cd (j .status) 0x60 sy n ds sr) (theStatus x 0x16 m l e) Interrupt q (theTransfer d o)
       (theWire Connected at false rp ls id el)) (theHost [] false hp v got []) (theTarget talking pa log []))
   unfolding steps
   tell-on = attend (byTransfer j) _ (record { asks = rw asked-is; on = rw asked-is (now refl) })
@@ -215,7 +215,7 @@ module _ {s₀ : State} (j : Job) (pr : Proper s₀ j) where
       → Lined q (b ∷ fifo)
       → B
       (theScene
-      (theState (theRegisters ow ct tm cd (j .status) 0x60 sy n ds sr) (theStatus x c m l e (Ending 0x16)) q (theTransfer SelectAndTransferWithAtn In false)
+      (theState (theRegisters ow ct tm cd (j .status) 0x60 sy n ds sr) (theStatus x c m l e) (Ends SelectAndTransferWithAtn 0x16) q (theTransfer In false)
       (theWire Connected at false rp ls id el)) (theHost [] false DataIn v got []) (theTarget talking pa log []))
   unfolding steps
   end-on [] n =
@@ -236,7 +236,7 @@ module _ {s₀ : State} (j : Job) (pr : Proper s₀ j) where
       {q : Fifo} {d : Direction} {r : Registers} {n : List Note}
       → Quiet d q
       → B
-      (theScene (theState r (theStatus x c m l e Nothing) q (theTransfer Idle d o) (theWire Disconnected at false rp ls id el))
+      (theScene (theState r (theStatus x c m l e) Idle q (theTransfer d o) (theWire Disconnected at false rp ls id el))
       (theHost [] false hp v got n) (theTarget away pa log []))
   unfolding steps
   rest-on unfixed = at-once (byTransfer j) _ (rw asked-is)
@@ -246,7 +246,7 @@ module _ {s₀ : State} (j : Job) (pr : Proper s₀ j) where
       {q : Fifo} {d : Direction} {r : Registers} {n : List Note}
       → Quiet d q
       → B
-      (theScene (theState r (theStatus x 0x85 m l e Interrupt) q (theTransfer Idle d o) (theWire Disconnected at false rp ls id el))
+      (theScene (theState r (theStatus x 0x85 m l e) Interrupt q (theTransfer d o) (theWire Disconnected at false rp ls id el))
       (theHost [] false hp v got n) (theTarget away pa log []))
   unfolding steps
   free-on k = attend (byTransfer j) _ (record { asks = rw asked-is; on = rw asked-is (rest-on k) })
@@ -257,7 +257,7 @@ module _ {s₀ : State} (j : Job) (pr : Proper s₀ j) where
       → Aimed td f x
       → Plays [] (Finals j) td r n
       → B
-      (theScene (theState r (theStatus x 0x85 m l e Interrupt) q (theTransfer Idle d o) (theWire Disconnected at false rp ls id el))
+      (theScene (theState r (theStatus x 0x85 m l e) Interrupt q (theTransfer d o) (theWire Disconnected at false rp ls id el))
       (theHost td f hp v got n) (theTarget away pa log []))
   unfolding scenes
   read-on k before (over g) = free-on k

@@ -1,15 +1,14 @@
 // A new controller, and the parts that Reset makes anew (chip's specs/State.antt).
 ghost use mathlib.Core.Path.{_≡_};
-ghost use Rattle.chip.specs.State.{apart, cleared, fresh, nothingRuns};
+ghost use Rattle.chip.specs.State.{apart, cleared, fresh, nothingMoves};
+use chip::Activity;
 use chip::Connection;
 use chip::Descriptor;
 use chip::Direction;
 use chip::Handshake;
 use chip::Identity;
 use chip::Noted;
-use chip::Pending;
 use chip::Registers;
-use chip::Running;
 use chip::Seen;
 use chip::Setup;
 use chip::State;
@@ -39,11 +38,10 @@ pub fn cleared(own: u8) -> Registers
     }
 }
 
-pub fn nothing_runs() -> Transfer
-    ensures { λ r. ⌜ r ≡ nothingRuns ⌝ }
+pub fn nothing_moves() -> Transfer
+    ensures { λ r. ⌜ r ≡ nothingMoves ⌝ }
 {
     Transfer {
-        running: Running::Idle,
         direction: Direction::Unfixed,
         single: false,
     }
@@ -78,10 +76,9 @@ pub fn fresh() -> State
         command: 0,
         lci: false,
         pe: false,
-        pending: Pending::Nothing,
     };
     let fifo = fifo::empty();
-    let transfer = nothing_runs();
+    let transfer = nothing_moves();
     let wire = apart(Identity { number: 0 });
     State {
         registers,
@@ -89,5 +86,6 @@ pub fn fresh() -> State
         fifo,
         transfer,
         wire,
+        activity: Activity::Idle,
     }
 }

@@ -1,25 +1,16 @@
 // The fields that are enums or structs, read off a state.
 ghost use mathlib.Core.Path.{_≡_};
+use chip::Activity;
 use chip::Connection;
 use chip::Direction;
 use chip::Identity;
 use chip::Noted;
-use chip::Pending;
-use chip::Running;
 use chip::State;
 
-pub fn pending(s: State) -> Pending
-    ensures { λ r. ⌜ r ≡ s .status .pending ⌝ }
+pub fn activity(s: State) -> Activity
+    ensures { λ r. ⌜ r ≡ s .activity ⌝ }
 {
-    let part = s.status;
-    part.pending
-}
-
-pub fn running(s: State) -> Running
-    ensures { λ r. ⌜ r ≡ s .transfer .running ⌝ }
-{
-    let part = s.transfer;
-    part.running
+    s.activity
 }
 
 pub fn direction(s: State) -> Direction

@@ -1,17 +1,15 @@
 // A state with one field changed: set::phase(s, x) is the definition setPhase x s.
 ghost use mathlib.Core.Path.{_≡_};
-ghost use Rattle.chip.specs.State.{setRegisters, setControl, setLun, setPhase, setCount, setSource, setPointer, setCode, setCommand, setLci, setPe, setPending, setRunning, setDirection, setSingle, setConnection, setAtn, setAck, setSeen, setReported, setLast, setElapsed, setFifo};
+ghost use Rattle.chip.specs.State.{setRegisters, setControl, setLun, setPhase, setCount, setSource, setPointer, setCode, setCommand, setLci, setPe, setActivity, setDirection, setSingle, setConnection, setAtn, setAck, setSeen, setReported, setLast, setElapsed, setFifo};
 use crate::get;
+use chip::Activity;
 use chip::Connection;
 use chip::Direction;
 use chip::Fifo;
 use chip::Noted;
-use chip::Pending;
 use chip::Registers;
-use chip::Running;
 use chip::Seen;
 use chip::State;
-use chip::Status;
 use chip::Transfer;
 use chip::Wire;
 
@@ -103,45 +101,29 @@ pub fn pe(s: State, x: bool) -> State
     t
 }
 
-pub fn pending(s: State, x: Pending) -> State
-    ensures { λ r. ⌜ r ≡ setPending x s ⌝ }
+pub fn activity(s: State, x: Activity) -> State
+    ensures { λ r. ⌜ r ≡ setActivity x s ⌝ }
 {
-    let p = s.status;
-    let status = Status {
-        pointer: p.pointer,
-        code: p.code,
-        command: p.command,
-        lci: p.lci,
-        pe: p.pe,
-        pending: x,
-    };
-    let mut t = s;
-    t.status = status;
-    t
-}
-
-pub fn running(s: State, x: Running) -> State
-    ensures { λ r. ⌜ r ≡ setRunning x s ⌝ }
-{
-    let p = s.transfer;
-    let direction = p.direction;
-    let transfer = Transfer {
-        running: x,
-        direction,
-        single: p.single,
-    };
-    let mut t = s;
-    t.transfer = transfer;
-    t
+    let registers = s.registers;
+    let status = s.status;
+    let fifo = s.fifo;
+    let transfer = s.transfer;
+    let wire = s.wire;
+    State {
+        registers,
+        status,
+        fifo,
+        transfer,
+        wire,
+        activity: x,
+    }
 }
 
 pub fn direction(s: State, x: Direction) -> State
     ensures { λ r. ⌜ r ≡ setDirection x s ⌝ }
 {
     let p = s.transfer;
-    let running = p.running;
     let transfer = Transfer {
-        running,
         direction: x,
         single: p.single,
     };

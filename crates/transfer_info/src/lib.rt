@@ -40,9 +40,6 @@ pub fn halts(bad: bool, s: State) -> bool
 pub fn halted(s: State) -> Reply
     ensures { λ r. ⌜ r ≡ halted s ⌝ }
 {
-    if interrupts::interrupted(s) {
-        return answers::held(s);
-    }
     let t = set::reported(set::ack(set::pe(s, true), true), Noted::NoPhase);
     answers::reports(interrupts::ending_with(0x43, t))
 }
@@ -112,9 +109,6 @@ fn taken(p: Phase, b: u8, bad: bool, s: State) -> Reply
 {
     let t = taken_in(b, bad, s);
     if is_last_message_in(p, s) {
-        if interrupts::interrupted(s) {
-            return answers::held(s);
-        }
         let u = set::reported(set::ack(t, true), Noted::NoPhase);
         return answers::done(b, interrupts::ending_with(0x20, u));
     }
@@ -146,9 +140,6 @@ fn over_code(p: Phase, s: State) -> u8
 fn over(p: Phase, s: State) -> Reply
     ensures { λ r. ⌜ r ≡ transferInfoOver p s ⌝ }
 {
-    if interrupts::interrupted(s) {
-        return answers::held(s);
-    }
     answers::reports(interrupts::ending_with(over_code(p, s), set::reported(s, Noted::Was(p))))
 }
 
@@ -197,8 +188,5 @@ fn free_code(s: State) -> u8
 pub fn free(s: State, t: State) -> Reply
     ensures { λ r. ⌜ r ≡ transferInfoFree s t ⌝ }
 {
-    if interrupts::interrupted(s) {
-        return answers::held(s);
-    }
     answers::done(0, interrupts::ending_with(free_code(s), t))
 }

@@ -1,11 +1,12 @@
 -- The rows of the table that Requests and a Free make: the step computes what each says.
---   Seen seen shown    of a state, or a reply: code, what is pending, and what is unread
+--   Seen seen shown    of a state, or a reply: code, activity, and what is unread
 --   Raised k t         t shows INT with the code k
 --   Load load          of a state: the bytes that wait, and their way
 --   Ended k w v t      an ending with k led to t: raised with nothing unread, or pending where w says that bytes are unread, which with their
 --                      way are then v
 --   raised-by ended-by .. of a state that `raise` or `endingWith` made
 --   open-event         an event that INT does not hold back
+--   transfer-on info-on   with nothing pending, such a command goes on
 --   completes-row saves-row overruns-row surprises-row spoils-row last-row asks-row   Requests
 --   info-free-row cuts-transfer-row leaves-transfer-row read-out-row idle-free-row    Free
 --   transfer-freed     .. while a Select-And-Transfer runs
@@ -20,17 +21,15 @@ use Rattle.chip.specs.Lines.{idi}
 use Rattle.chip.specs.Fifo.{isEmpty, hasRoom, push}
 use Rattle.chip.specs.State.{setFifo}
 use Rattle.chip.specs.Count.{noneLeft, lowered}
-use Rattle.chip.specs.Interrupts.{isInterrupt, isEnding, endingWith, raise, outgoingDropped, withoutOutgoing, closed, bytesUnread, isIncoming, isOutgoing, unlessInterrupt}
+use Rattle.chip.specs.Interrupts.{endingWith, raise, outgoingDropped, withoutOutgoing, closed, bytesUnread, isIncoming, isOutgoing, unlessInterrupt}
 use Rattle.chip.specs.TransferInfo as I
 use Rattle.chip.specs.SelectAndTransfer as X
 use Rattle.chip.specs.Events as E
-use Rattle.chip.specs.Running.{isSelectAndTransfer, isTransferInfo}
+use Rattle.chip.specs.Activity.{goesOn, ends, readsOut, isSelectAndTransfer, isTransferInfo}
 use Rattle.chip.specs.Calls.{Outcome, request, free, isGood, isSet, step, carried}
 use Rattle.chip.specs.declared.State.{State}
 use Rattle.chip.specs.declared.Reply.{Reply}
 use Rattle.chip.specs.declared.Connection.the-variants.{Connected}
-use Rattle.chip.specs.declared.Running.{Running}
-use Rattle.chip.specs.declared.Running.the-variants.{TransferInfo}
 use Rattle.chip.specs.declared.Stage.{Stage}
 use Rattle.chip.specs.declared.Stage.the-variants.{SendIdentify, SendCommand, Body, AfterData, Disconnecting, Reselected, AfterStatus, Elsewhere}
 use Rattle.chip.specs.declared.Direction.{Direction}
@@ -38,8 +37,11 @@ use Rattle.chip.specs.declared.Direction.the-variants.{Unfixed, In, Out}
 use Rattle.chip.specs.declared.Phase.{Phase}
 use Rattle.chip.specs.declared.Phase.the-variants.{DataOut, DataIn, CommandOut, StatusIn, UnspecifiedOut, UnspecifiedIn, MessageOut, MessageIn}
 use Rattle.chip.specs.declared.Fifo.{Fifo}
-use Rattle.chip.specs.declared.Pending.{Pending}
-use Rattle.chip.specs.declared.Pending.the-variants.{Interrupt, Ending, ReadOut}
+use Rattle.chip.specs.declared.Activity.{Activity}
+use Rattle.chip.specs.declared.Activity.the-variants as A
+use Rattle.unread.specs.Status.{Ending, ReadOut, pendingIn, pending}
+use Rattle.unread.proofs.Pendings.{int-by, end-by, info-no-transfer}
+use Rattle.chip.proofs.Activities.{transfer-goes-on, info-goes-on}
 use Rattle.unread.specs.Because.{Quiet, Offered, LastMessage, isIdle, isSpent, expects, expectsBody, expectsLate, wants, fits, halts, isBeforeStatus}
 use Rattle.chip.specs.SelectAndTransfer.{stage}
 use Rattle.chip.proofs.Cases.{by-pick, by-test, both-first, both-second, either-second, either-first, either-rest, taken, passed-over}
@@ -47,24 +49,23 @@ use Rattle.unread.proofs.Choosing.{clash, not-first, second-fails, seco
 use Rattle.unread.proofs.Bus.{remembered-keeps, info-wants, info-spent, by-stage}
 use Rattle.chip.proofs.FifoLaws.{push-some}
 use Rattle.unread.proofs.Told.{good-step}
-use Rattle.chip.proofs.Numbers.{is-transfer-info}
 use Rattle.chip.specs.Connections.{isConnected}
 
 pub record Seen : Type 0 where
   pub code : ℕ
-  pub pending : Pending
+  pub activity : Activity
   pub direction : Direction
   pub fifo : Fifo
 
 abbrev pub seen : State → Seen
-seen t = record { code = t .status .code; pending = t .status .pending; direction = t .transfer .direction; fifo = t .fifo }
+seen t = record { code = t .status .code; activity = t .activity; direction = t .transfer .direction; fifo = t .fifo }
 
 abbrev pub shown : Reply → Seen
 shown r = seen (r .state)
 
 pub record Raised (k : ℕ) (t : State) : Type 0 where
   pub code : t .status .code ≡ k
-  pub int : t .status .pending ≡ Interrupt
+  pub int : t .activity ≡ A.Interrupt
 
 pub record Load : Type 0 where
   pub fifo : Fifo
@@ -76,12 +77,12 @@ load t = record { fifo = t .fifo; direction = t .transfer .direction }
 pub record Ended (k : ℕ) (w : Bool) (v : Load) (t : State) : Type 0 where
   pub raised-now : w ≡ false → Raised k t
   pub all-read : w ≡ false → bytesUnread t ≡ false
-  pub read-first : w ≡ true → t .status .pending ≡ Ending k
+  pub read-first : w ≡ true → pending t ≡ Ending k
   pub kept : w ≡ true → load t ≡ v
 
 pub raised-by : {k : ℕ} {t : State} (u : State) → seen t ≡ seen (raise k u) → Raised k t
 unfolding raise
-raised-by u e = record { code = ap (λ (x : Seen). x .code) e; int = ap (λ (x : Seen). x .pending) e }
+raised-by u e = record { code = ap (λ (x : Seen). x .code) e; int = ap (λ (x : Seen). x .activity) e }
 
 unread-seen : (s t : State) → seen s ≡ seen t → bytesUnread s ≡ bytesUnread t
 unfolding bytesUnread
@@ -101,20 +102,41 @@ raise-unread k u = by-way (u .transfer .direction)
 abbrev loadSeen : Seen → Load
 loadSeen x = record { fifo = x .fifo; direction = x .direction }
 
-pub ended-by : {k : ℕ} {w : Bool} {t : State} (u : State) → seen t ≡ seen (endingWith k u) → bytesUnread u ≡ w → Ended k w (load u) t
+ends-pending : (k : ℕ) (a : Activity) → goesOn a ≡ true → pendingIn (ends k a) ≡ Ending k
+ends-pending k A.Idle e = clash e refl
+ends-pending k A.Interrupt e = clash e refl
+ends-pending k (A.Runs r) e = refl
+ends-pending k (A.Ends r j) e = clash e refl
+ends-pending k (A.ReadOut r) e = clash e refl
+
+reads-out-pending : (a : Activity) → goesOn a ≡ true → pendingIn (readsOut a) ≡ ReadOut
+reads-out-pending A.Idle e = clash e refl
+reads-out-pending A.Interrupt e = clash e refl
+reads-out-pending (A.Runs r) e = refl
+reads-out-pending (A.Ends r j) e = clash e refl
+reads-out-pending (A.ReadOut r) e = clash e refl
+
+pub ended-by : {k : ℕ} {w : Bool} {t : State} (u : State) → seen t ≡ seen (endingWith k u) → bytesUnread u ≡ w
+    → (w ≡ true → goesOn (u .activity) ≡ true) → Ended k w (load u) t
 unfolding endingWith pick
-ended-by {k} {t = t} u e f =
+ended-by {k} {t = t} u e f on =
     record {
       raised-now = λ h. raised-by u (rw (f, h) at e);
       all-read = λ h. unread-seen t (raise k u) (rw (f, h) at e) ∙ raise-unread k u ∙ f ∙ h;
-      read-first = λ h. ap (λ (x : Seen). x .pending) (rw (f, h) at e);
+      read-first = λ h. ap (λ (x : Seen). pendingIn (x .activity)) (rw (f, h) at e) ∙ ends-pending k (u .activity) (on h);
       kept = λ h. ap loadSeen (rw (f, h) at e);
     }
 
 -- an event that nothing holds back
 pub open-event : (s : State) (r : Reply) → Quiet s → unlessInterrupt s r ≡ r
 unfolding unlessInterrupt
-open-event s r q = passed-over _ _ (ap isInterrupt q)
+open-event s r q = passed-over _ _ (int-by s q)
+
+pub transfer-on : (s : State) → Quiet s → isSelectAndTransfer (s .activity) ≡ true → goesOn (s .activity) ≡ true
+transfer-on s q t = transfer-goes-on (s .activity) (end-by s q) t
+
+pub info-on : (s : State) → Quiet s → isTransferInfo (s .activity) ≡ true → goesOn (s .activity) ≡ true
+info-on s q t = info-goes-on (s .activity) (end-by s q) t
 
 message-goes-out : (p : Phase) → isMessageOut p ≡ true → comesIn p ≡ false
 message-goes-out DataOut e = refl
@@ -136,15 +158,15 @@ command-goes-out UnspecifiedIn e = clash e refl
 command-goes-out MessageOut e = refl
 command-goes-out MessageIn e = clash e refl
 
-informs : (r : Running) → isIdle r ≡ false → isSelectAndTransfer r ≡ false → r ≡ TransferInfo
-informs r i t = is-transfer-info r (not-false _ (rw t at i))
+informs : (a : Activity) → isIdle a ≡ false → isSelectAndTransfer a ≡ false → isTransferInfo a ≡ true
+informs a i t = not-false _ (rw t at i)
 
 -- an idle controller, connected, runs none of the commands that Requests are for
-idle-transfers : (r : Running) → isIdle r ≡ true → isSelectAndTransfer r ≡ false
-idle-transfers r e = by-test (isSelectAndTransfer r) (λ t. clash e (rw t)) (λ t. t)
+idle-transfers : (a : Activity) → isIdle a ≡ true → isSelectAndTransfer a ≡ false
+idle-transfers a e = by-test (isSelectAndTransfer a) (λ t. clash e (rw t)) (λ t. t)
 
-idle-informs : (r : Running) → isIdle r ≡ true → isTransferInfo r ≡ false
-idle-informs r e = by-test (isTransferInfo r) (λ i. clash e (rw (idle-transfers r e, i))) (λ i. i)
+idle-informs : (a : Activity) → isIdle a ≡ true → isTransferInfo a ≡ false
+idle-informs a e = by-test (isTransferInfo a) (λ i. clash e (rw (idle-transfers a e, i))) (λ i. i)
 
 module _ (n b m : ℕ) (s : State) where
   reaches : {p : Phase} → Offered n b m p s
@@ -154,23 +176,23 @@ module _ (n b m : ℕ) (s : State) where
       ap (λ (x : Outcome). seen (x .state)) (good-step (request n b m) s (o .good)) ∙ remembered-keeps seen (λ x t. refl) (phaseOf n) _
       ∙ ap shown
       (taken _ _ (ap isConnected (o .connected)) ∙ ap (λ (q : Phase). E.requestedConnected q b (isSet m) s) (o .phase)
-      ∙ passed-over _ _ (ap isEnding (o .quiet)) ∙ passed-over _ _ (o .released))
+      ∙ passed-over _ _ (end-by s (o .quiet)) ∙ passed-over _ _ (o .released))
 
   -- a Select-And-Transfer serves by its stage
-  serves : (p : Phase) → isSelectAndTransfer (s .transfer .running) ≡ true
+  serves : (p : Phase) → isSelectAndTransfer (s .activity) ≡ true
       → E.requestedRunning p b (isSet m) s ≡ X.requestAt (stage s) p b (isSet m) s
   unfolding E.requestedRunning X.selectAndTransferRequest
   serves p e = taken _ _ e
 
   -- a Transfer Info
-  serves-info : (p : Phase) → s .transfer .running ≡ TransferInfo → E.requestedRunning p b (isSet m) s ≡ I.transferInfoRequest p b (isSet m) s
+  serves-info : (p : Phase) → isTransferInfo (s .activity) ≡ true → E.requestedRunning p b (isSet m) s ≡ I.transferInfoRequest p b (isSet m) s
   unfolding E.requestedRunning
-  serves-info p e = passed-over _ _ (ap isSelectAndTransfer e) ∙ taken _ _ (ap isTransferInfo e)
+  serves-info p e = passed-over _ _ (info-no-transfer (s .activity) e) ∙ taken _ _ e
 
   -- no command that Requests are for
-  serves-idle : (p : Phase) → isIdle (s .transfer .running) ≡ true → E.requestedRunning p b (isSet m) s ≡ E.idleRequest p s
+  serves-idle : (p : Phase) → isIdle (s .activity) ≡ true → E.requestedRunning p b (isSet m) s ≡ E.idleRequest p s
   unfolding E.requestedRunning
-  serves-idle p e = passed-over _ _ (idle-transfers (s .transfer .running) e) ∙ passed-over _ _ (idle-informs (s .transfer .running) e)
+  serves-idle p e = passed-over _ _ (idle-transfers (s .activity) e) ∙ passed-over _ _ (idle-informs (s .activity) e)
 
   message-surprises : either (eqb b 0x02) (eqb b 0x04) ≡ false → X.takeMessage b (isSet m) s ≡ X.unexpected MessageIn s
   unfolding X.takeMessage
@@ -297,22 +319,22 @@ module _ (n b m : ℕ) (s : State) where
   unfolding I.unlessHalted halts
   unless-sound r h = passed-over _ _ h
 
-  transfer-reaches : {p : Phase} {r : Reply} → Offered n b m p s → isSelectAndTransfer (s .transfer .running) ≡ true
+  transfer-reaches : {p : Phase} {r : Reply} → Offered n b m p s → isSelectAndTransfer (s .activity) ≡ true
       → X.requestAt (stage s) p b (isSet m) s ≡ r → seen (step (request n b m) s .state) ≡ shown r
   transfer-reaches {p} o t e = reaches o ∙ ap shown (serves p t ∙ e)
 
-  info-reaches : {p : Phase} {r : Reply} → Offered n b m p s → s .transfer .running ≡ TransferInfo
+  info-reaches : {p : Phase} {r : Reply} → Offered n b m p s → isTransferInfo (s .activity) ≡ true
       → I.transferInfoRequest p b (isSet m) s ≡ r → seen (step (request n b m) s .state) ≡ shown r
   info-reaches {p} o t e = reaches o ∙ ap shown (serves-info p t ∙ e)
 
-  pub completes-row : Offered n b m MessageIn s → isSelectAndTransfer (s .transfer .running) ≡ true → stage s ≡ AfterStatus → eqb b 0x00 ≡ true
+  pub completes-row : Offered n b m MessageIn s → isSelectAndTransfer (s .activity) ≡ true → stage s ≡ AfterStatus → eqb b 0x00 ≡ true
       → halts m s ≡ false → Ended 0x16 (bytesUnread s) (load s) (step (request n b m) s .state)
   unfolding X.requestAt X.takeComplete X.completed I.parityNoted bytesUnread both
   completes-row o t at e h =
       ended-by _
       (transfer-reaches o t
-      (ap (λ (g : Stage). X.requestAt g MessageIn b (isSet m) s) at ∙ taken _ _ e ∙ unless-sound _ h ∙ open-event s _ (o .quiet)))
-      refl
+      (ap (λ (g : Stage). X.requestAt g MessageIn b (isSet m) s) at ∙ taken _ _ e ∙ unless-sound _ h))
+      refl (λ w. transfer-on s (o .quiet) t)
 
   before-status : (g : Stage) → isBeforeStatus g ≡ true → X.requestAt g MessageIn b (isSet m) s ≡ X.takeMessage b (isSet m) s
   unfolding X.requestAt X.bodyRequest X.lateRequest
@@ -325,55 +347,55 @@ module _ (n b m : ℕ) (s : State) where
   before-status AfterStatus e = clash e refl
   before-status Elsewhere e = clash e refl
 
-  pub saves-row : Offered n b m MessageIn s → isSelectAndTransfer (s .transfer .running) ≡ true → isBeforeStatus (stage s) ≡ true → eqb b 0x02 ≡ true
+  pub saves-row : Offered n b m MessageIn s → isSelectAndTransfer (s .activity) ≡ true → isBeforeStatus (stage s) ≡ true → eqb b 0x02 ≡ true
       → halts m s ≡ false → Ended 0x21 (bytesUnread s) (load s) (step (request n b m) s .state)
   unfolding X.takeMessage X.takeSave I.parityNoted bytesUnread
   saves-row o t g e h =
       ended-by _
-      (transfer-reaches o t (before-status (stage s) g ∙ taken _ _ e ∙ unless-sound _ h ∙ open-event s _ (o .quiet)))
-      refl
+      (transfer-reaches o t (before-status (stage s) g ∙ taken _ _ e ∙ unless-sound _ h))
+      refl (λ w. transfer-on s (o .quiet) t)
 
-  over-row : {p : Phase} → Offered n b m p s → s .transfer .running ≡ TransferInfo → wants p b s ≡ false
+  over-row : {p : Phase} → Offered n b m p s → isTransferInfo (s .activity) ≡ true → wants p b s ≡ false
       → Ended (I.overCode p s) (bytesUnread s) (load s) (step (request n b m) s .state)
   unfolding I.transferInfoRequest I.transferInfoOver bytesUnread
   over-row {p} o t w =
-      ended-by _ (info-reaches o t (passed-over _ _ (rw (← (info-wants p b s t)) w) ∙ open-event s _ (o .quiet))) refl
+      ended-by _ (info-reaches o t (passed-over _ _ (rw (← (info-wants p b s t)) w))) refl (λ w. info-on s (o .quiet) t)
 
-  pub overruns-row : {p : Phase} → Offered n b m p s → isIdle (s .transfer .running) ≡ false → isSpent s ≡ true
+  pub overruns-row : {p : Phase} → Offered n b m p s → isIdle (s .activity) ≡ false → isSpent s ≡ true
       → Ended (0x18 + phaseNumber p) (bytesUnread s) (load s) (step (request n b m) s .state)
   unfolding isSpent I.overCode pick
   overruns-row {p} o r e =
-      let t : s .transfer .running ≡ TransferInfo = informs _ r (not-true _ (both-first _ _ e)) in
-      let l : noneLeft s ≡ true = both-second (not (isSelectAndTransfer (s .transfer .running))) _ e in
+      let t : isTransferInfo (s .activity) ≡ true = informs (s .activity) r (not-true _ (both-first _ _ e)) in
+      let l : noneLeft s ≡ true = both-second (not (isSelectAndTransfer (s .activity))) _ e in
       rw l at (over-row o t (info-wants p b s t ∙ second-fails _ _ (rw l)))
 
-  pub surprises-row : {p : Phase} → Offered n b m p s → isIdle (s .transfer .running) ≡ false → wants p b s ≡ false → isSpent s ≡ false
+  pub surprises-row : {p : Phase} → Offered n b m p s → isIdle (s .activity) ≡ false → wants p b s ≡ false → isSpent s ≡ false
       → Ended (0x48 + phaseNumber p) (bytesUnread s) (load s) (step (request n b m) s .state)
   unfolding X.unexpected I.overCode bytesUnread pick
   surprises-row {p} o r w e =
-      by-test (isSelectAndTransfer (s .transfer .running))
+      by-test (isSelectAndTransfer (s .activity))
       (λ t. ended-by _
       (transfer-reaches o t
-      (stage-surprises (stage s) p (rw (← (by-stage p b s (stage s) t refl)) w) ∙ open-event s _ (o .quiet)))
-      refl)
-      (λ t. let i : s .transfer .running ≡ TransferInfo = informs _ r t in rw (← (info-spent s i), e) at (over-row o i w))
+      (stage-surprises (stage s) p (rw (← (by-stage p b s (stage s) t refl)) w)))
+      refl (λ z. transfer-on s (o .quiet) t))
+      (λ t. let i : isTransferInfo (s .activity) ≡ true = informs (s .activity) r t in rw (← (info-spent s i), e) at (over-row o i w))
 
-  pub spoils-row : {p : Phase} → Offered n b m p s → isIdle (s .transfer .running) ≡ false → wants p b s ≡ true → comesIn p ≡ true
+  pub spoils-row : {p : Phase} → Offered n b m p s → isIdle (s .activity) ≡ false → wants p b s ≡ true → comesIn p ≡ true
       → fits p s ≡ true → halts m s ≡ true → Ended 0x43 (bytesUnread s) (load s) (step (request n b m) s .state)
   unfolding I.transferInfoRequest I.transferInfoOffered I.halted bytesUnread fits both
   spoils-row {p} o r w c f h =
-      by-test (isSelectAndTransfer (s .transfer .running))
+      by-test (isSelectAndTransfer (s .activity))
       (λ t. ended-by _
       (transfer-reaches o t
-      (stage-halts h (stage s) p (rw (← (by-stage p b s (stage s) t refl)) w) c (λ d. room (rw (t, d))) ∙ open-event s _ (o .quiet)))
-      refl)
-      (λ t. let i : s .transfer .running ≡ TransferInfo = informs _ r t in
+      (stage-halts h (stage s) p (rw (← (by-stage p b s (stage s) t refl)) w) c (λ d. room (rw (t, d)))))
+      refl (λ z. transfer-on s (o .quiet) t))
+      (λ t. let i : isTransferInfo (s .activity) ≡ true = informs (s .activity) r t in
       ended-by _
       (info-reaches o i
-      (taken _ _ (rw (← (info-wants p b s i)) w) ∙ taken _ _ c ∙ taken _ _ (room (rw t)) ∙ halted h _ ∙ open-event s _ (o .quiet)))
-      refl)
+      (taken _ _ (rw (← (info-wants p b s i)) w) ∙ taken _ _ c ∙ taken _ _ (room (rw t)) ∙ halted h _))
+      refl (λ z. info-on s (o .quiet) i))
     where
-      room : both (isSelectAndTransfer (s .transfer .running)) (not (samePhase p DataIn)) ≡ false → hasRoom (s .fifo) ≡ true
+      room : both (isSelectAndTransfer (s .activity)) (not (samePhase p DataIn)) ≡ false → hasRoom (s .fifo) ≡ true
       room e = either-second _ _ f e
 
   -- the last Message In byte: it is unread itself, where it comes in
@@ -383,10 +405,10 @@ module _ (n b m : ℕ) (s : State) where
       ended-by _
       (info-reaches (l .offered) (l .runs)
       (taken _ _ (rw (← (info-wants MessageIn b s (l .runs))) (l .wanted)) ∙ taken _ _ refl ∙ taken _ _ (l .room)
-      ∙ unless-sound _ (l .sound) ∙ taken _ _ (l .last) ∙ open-event s _ (l .offered .quiet)))
-      (second-holds _ _ (rw (push-some b (s .fifo) (l .room))))
+      ∙ unless-sound _ (l .sound) ∙ taken _ _ (l .last)))
+      (second-holds _ _ (rw (push-some b (s .fifo) (l .room)))) (λ w. info-on s (l .offered .quiet) (l .runs))
 
-  pub asks-row : {p : Phase} → Offered n b m p s → isIdle (s .transfer .running) ≡ true → isNoted p (s .wire .seen .reported) ≡ false
+  pub asks-row : {p : Phase} → Offered n b m p s → isIdle (s .activity) ≡ true → isNoted p (s .wire .seen .reported) ≡ false
       → Raised (0x88 + phaseNumber p) (step (request n b m) s .state)
   unfolding E.idleRequest
   asks-row {p} o e f =
@@ -399,41 +421,41 @@ module _ (s : State) (q : Quiet s) (x : s .wire .connection ≡ Connected) where
   unfolding carried E.freed
   free-reaches e =
       ap (λ (o : Outcome). seen (o .state)) (good-step free s is-good)
-      ∙ ap shown (taken _ _ (ap isConnected x) ∙ passed-over _ _ (ap isEnding q) ∙ e)
+      ∙ ap shown (taken _ _ (ap isConnected x) ∙ passed-over _ _ (end-by s q) ∙ e)
     where
       is-good : isGood free ≡ true
       is-good = unfold isGood in refl
 
-  pub info-free-row : s .transfer .running ≡ TransferInfo → Ended (I.transferInfoFreeCode s) (bytesUnread s) (load s) (step free s .state)
+  pub info-free-row : isTransferInfo (s .activity) ≡ true → Ended (I.transferInfoFreeCode s) (bytesUnread s) (load s) (step free s .state)
   unfolding E.freedRunning I.transferInfoFree E.busFree bytesUnread
   info-free-row t =
       ended-by _
-      (free-reaches (passed-over _ _ (ap isSelectAndTransfer t) ∙ taken _ _ (ap isTransferInfo t) ∙ open-event s _ q)) refl
+      (free-reaches (passed-over _ _ (info-no-transfer (s .activity) t) ∙ taken _ _ t)) refl (λ w. info-on s q t)
 
-  pub transfer-freed : isSelectAndTransfer (s .transfer .running) ≡ true → E.freedRunning s ≡ X.selectAndTransferFree s (E.busFree s)
+  pub transfer-freed : isSelectAndTransfer (s .activity) ≡ true → E.freedRunning s ≡ X.selectAndTransferFree s (E.busFree s)
   unfolding E.freedRunning
   transfer-freed e = taken _ _ e
 
-  pub cuts-transfer-row : isSelectAndTransfer (s .transfer .running) ≡ true → eqb (s .registers .descriptor .phase) 0x42 ≡ false
+  pub cuts-transfer-row : isSelectAndTransfer (s .activity) ≡ true → eqb (s .registers .descriptor .phase) 0x42 ≡ false
       → Ended 0x41 (bytesUnread s) (load s) (step free s .state)
   unfolding X.selectAndTransferFree E.busFree bytesUnread
-  cuts-transfer-row t e = ended-by _ (free-reaches (transfer-freed t ∙ passed-over _ _ e ∙ open-event s _ q)) refl
+  cuts-transfer-row t e = ended-by _ (free-reaches (transfer-freed t ∙ passed-over _ _ e)) refl (λ w. transfer-on s q t)
 
-  pub leaves-transfer-row : isSelectAndTransfer (s .transfer .running) ≡ true → eqb (s .registers .descriptor .phase) 0x42 ≡ true → idi s ≡ true
+  pub leaves-transfer-row : isSelectAndTransfer (s .activity) ≡ true → eqb (s .registers .descriptor .phase) 0x42 ≡ true → idi s ≡ true
       → Ended 0x85 (bytesUnread s) (load s) (step free s .state)
   unfolding X.selectAndTransferFree X.freeAfterDisconnect E.busFree bytesUnread
   leaves-transfer-row t e d =
-      ended-by _ (free-reaches (transfer-freed t ∙ taken _ _ e ∙ taken _ _ d ∙ open-event s _ q)) refl
+      ended-by _ (free-reaches (transfer-freed t ∙ taken _ _ e ∙ taken _ _ d)) refl (λ w. transfer-on s q t)
 
-  pub read-out-row : isSelectAndTransfer (s .transfer .running) ≡ true → eqb (s .registers .descriptor .phase) 0x42 ≡ true → idi s ≡ false → bytesUnread s ≡ true
-      → (step free s .state .status .pending ≡ ReadOut) × (load (step free s .state) ≡ load s)
+  pub read-out-row : isSelectAndTransfer (s .activity) ≡ true → eqb (s .registers .descriptor .phase) 0x42 ≡ true → idi s ≡ false → bytesUnread s ≡ true
+      → (pending (step free s .state) ≡ ReadOut) × (load (step free s .state) ≡ load s)
   unfolding X.selectAndTransferFree X.freeAfterDisconnect X.freeToWait E.busFree
   read-out-row t e d u =
-      let h = free-reaches (transfer-freed t ∙ taken _ _ e ∙ passed-over _ _ d ∙ taken _ _ u ∙ open-event s _ q) in
-      (ap (λ (x : Seen). x .pending) h, ap loadSeen h)
+      let h = free-reaches (transfer-freed t ∙ taken _ _ e ∙ passed-over _ _ d ∙ taken _ _ u) in
+      (ap (λ (x : Seen). pendingIn (x .activity)) h ∙ reads-out-pending (s .activity) (transfer-on s q t), ap loadSeen h)
 
-  pub idle-free-row : isIdle (s .transfer .running) ≡ true → Raised 0x85 (step free s .state)
+  pub idle-free-row : isIdle (s .activity) ≡ true → Raised 0x85 (step free s .state)
   unfolding E.freedRunning E.idleFree
   idle-free-row e =
       raised-by _
-      (free-reaches (passed-over _ _ (idle-transfers (s .transfer .running) e) ∙ passed-over _ _ (idle-informs (s .transfer .running) e) ∙ open-event s _ q))
+      (free-reaches (passed-over _ _ (idle-transfers (s .activity) e) ∙ passed-over _ _ (idle-informs (s .activity) e) ∙ open-event s _ q))

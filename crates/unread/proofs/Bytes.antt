@@ -1,13 +1,13 @@
 -- The bytes of an ending, from its beginning to its last, and the law of specs/Ending.antt that they belong to.
 --   ending-stays      an ending stays until it is over
---   data-stays        an access to the Data register that does not read the last byte leaves the running command and the way
+--   data-stays        an access to the Data register that does not read the last byte leaves the activity and the way
 --   data-kept         .. and one that does not read leaves the bytes, where the way is not out
 --   reads-front       a read at 19h gives the oldest byte
 --   waits-then        the last byte of a read-out with no code leads to the wait for reselection
 --   waiting read-out-waits            the bytes that wait when an ending has begun
 --   disconnect-drops reset-drops      what drops an ending
 --   Short             a slice has no place for all the bytes that wait
-use mathlib.Core.Path.{_≡_, refl, ap, _∙_}
+use mathlib.Core.Path.{_≡_, refl, sym, ap, ap₂, _∙_}
 use mathlib.Core.Bool.{true, false, not}
 use mathlib.Core.List.{List, [], _∷_}
 use Prim.Native.Nat.{ℕ, _<_, _≤_}
@@ -28,10 +28,13 @@ use Rattle.chip.specs.declared.Fifo.{Fifo}
 use Rattle.chip.specs.declared.Answer.the-variants.{Done}
 use Rattle.chip.specs.declared.Direction.{Direction}
 use Rattle.chip.specs.declared.Direction.the-variants.{Unfixed, In, Out}
-use Rattle.chip.specs.declared.Pending.{Pending}
-use Rattle.chip.specs.declared.Pending.the-variants.{Nothing, Interrupt, Ending, ReadOut}
+use Rattle.chip.specs.declared.Activity.{Activity}
+use Rattle.chip.specs.declared.Activity.the-variants as Is
+use Rattle.chip.specs.declared.Command.{Command}
+use Rattle.chip.specs.declared.Transfer.{Transfer}
+use Rattle.chip.specs.Activity.{runningNumber}
 use Rattle.chip.specs.declared.Connection.the-variants.{Waiting}
-use Rattle.unread.specs.Status.{isCommand, isReset, isDisconnect, isDropped, readsAt}
+use Rattle.unread.specs.Status.{Nothing, ReadOut, Ending, pendingIn, pending, isCommand, isReset, isDisconnect, isDropped, readsAt}
 use Rattle.unread.specs.Because as B
 use Rattle.unread.specs.Because.{ReadsLast, BeginsReadOut}
 use Rattle.unread.specs.Ending.{isEvent, isDataAccess, isDataRead, Waits, Dropped, ResetDropped, EndingStays}
@@ -40,12 +43,13 @@ use Rattle.unread.proofs.Choosing.{clash, not-first}
 use Rattle.unread.proofs.Telling.{Summary, summary}
 use Rattle.unread.proofs.Host.{Pops, nothing-read, one-read, ending-read, wait-read, pops, going, written-keeps, block-keeps}
 use Rattle.chip.proofs.FifoLaws.{some-waits, pop-less}
-use Rattle.unread.proofs.Told.{told, good-step, access-step, Issued, issued, Reading, reading, disconnect-gives}
+use Rattle.unread.proofs.Told.{good-step, access-step, Issued, issued, Reading, reading, disconnect-gives}
 use Rattle.unread.proofs.Asked as A
 use Rattle.unread.proofs.Asked.{Load, load}
 use Rattle.unread.proofs.Rows.{data-read, data-reachable, last-stands, last-unread}
 use Rattle.unread.proofs.Because.{brings-row}
-use Rattle.unread.proofs.Ending.{refuses-bad, ending-is-still, pending-stays, host-stays}
+use Rattle.unread.proofs.Pendings.{isEnd}
+use Rattle.unread.proofs.Ending.{refuses-bad, ending-is-still, host-stays}
 
 -- where the way is not out nothing is written
 not-written : (b : ℕ) (s : State) → isOutgoing (s .transfer .direction) ≡ false → R.dataWritten b s ≡ noDataNow s
@@ -68,11 +72,19 @@ write-reachable b s = by-test (busy s) (λ e. rw e) (λ e. rw e)
 
 -- reads that leave a byte
 
-pops-transfer : {s t : State} → Pops s t → (isIncoming (s .transfer .direction) ≡ true → waits (s .fifo) ≡ 1 → ⊥) → t .transfer ≡ s .transfer
-pops-transfer nothing-read n = refl
-pops-transfer (one-read d w) n = refl
-pops-transfer (ending-read d w e) n = absurd (n d w)
-pops-transfer (wait-read d w e) n = refl
+-- what stays of a command: what it is at, and the way of its data
+record Course : Type 0 where
+  activity : Activity
+  transfer : Transfer
+
+abbrev course : State → Course
+course t = record { activity = t .activity; transfer = t .transfer }
+
+pops-course : {s t : State} → Pops s t → (isIncoming (s .transfer .direction) ≡ true → waits (s .fifo) ≡ 1 → ⊥) → course t ≡ course s
+pops-course nothing-read n = refl
+pops-course (one-read d w) n = refl
+pops-course (ending-read d w e) n = absurd (n d w)
+pops-course (wait-read d w e) n = absurd (n d w)
 
 -- the slice has no place for all the bytes that wait
 abbrev Short : List ℕ → State → Type 0
@@ -84,13 +96,13 @@ pops-short l x {s = s} (one-read d w) n d' v u = n d (some-waits (s .fifo) w) (o
 pops-short l x (ending-read d w e) n d' v u = n d (omega arith) (omega arith)
 pops-short l x (wait-read d w e) n d' v u = n d (omega arith) (omega arith)
 
-read-transfer : (l : List ℕ) (s : State) → Short l s → R.blockRead l s .state .transfer ≡ s .transfer
+read-course : (l : List ℕ) (s : State) → Short l s → course (R.blockRead l s .state) ≡ course s
 unfolding R.blockRead
-read-transfer [] s n = refl
-read-transfer (x ∷ l) s n =
-    going (λ (m : R.Moved). m .state .transfer ≡ s .transfer) (R.dataRead s .answer) _ _
-    (λ v. read-transfer l (R.dataRead s .state) (pops-short l x (pops s) n)
-    ∙ pops-transfer (pops s) (λ d w. n d (omega arith) (omega arith)))
+read-course [] s n = refl
+read-course (x ∷ l) s n =
+    going (λ (m : R.Moved). course (m .state) ≡ course s) (R.dataRead s .answer) _ _
+    (λ v. read-course l (R.dataRead s .state) (pops-short l x (pops s) n)
+    ∙ pops-course (pops s) (λ d w. n d (omega arith) (omega arith)))
     refl
 
 -- an access to the Data register
@@ -100,13 +112,13 @@ module _ (m b : ℕ) (s : State) (at : eqb (s .status .pointer) 0x19 ≡ true) (
   unfolding readsAt both
   reads-data w = rw (g, w, at)
 
-  register-stays : (ReadsLast (register m b) s → ⊥) → step (register m b) s .state .transfer ≡ s .transfer
+  register-stays : (ReadsLast (register m b) s → ⊥) → course (step (register m b) s .state) ≡ course s
   unfolding R.stepped
   register-stays n =
       by-test (isSet m)
-      (λ w. rw (access-step m b s 0x19 true g w at, write-reachable b s) (written-keeps (λ (t : State). t .transfer) (λ x t. refl) b s))
+      (λ w. rw (access-step m b s 0x19 true g w at, write-reachable b s) (written-keeps course (λ x t. refl) b s))
       (λ w. rw (access-step m b s 0x19 false g w at, data-reachable b s)
-      (pops-transfer (pops s) (λ d v. n (B.byte (reads-data w) d v))))
+      (pops-course (pops s) (λ d v. n (B.byte (reads-data w) d v))))
 
   register-kept : readsAt 0x19 (register m b) s ≡ false → isOutgoing (s .transfer .direction) ≡ false
       → step (register m b) s .state .fifo ≡ s .fifo
@@ -117,12 +129,12 @@ module _ (m b : ℕ) (s : State) (at : eqb (s .status .pointer) 0x19 ≡ true) (
       (λ w. clash (reads-data w) r)
 
 module _ (m : ℕ) (l : List ℕ) (s : State) (g : isGood (block m l) ≡ true) where
-  block-stays : (ReadsLast (block m l) s → ⊥) → step (block m l) s .state .transfer ≡ s .transfer
+  block-stays : (ReadsLast (block m l) s → ⊥) → course (step (block m l) s .state) ≡ course s
   unfolding carried
   block-stays n =
       rw (good-step (block m l) s g)
-      (by-case (λ (r : R.Moved). r .state .transfer ≡ s .transfer) _ (λ w. block-keeps (λ (t : State). t .transfer) (λ x t. refl) l s)
-      (λ w. read-transfer l s (λ d v u. n (B.slice g w d v u))))
+      (by-case (λ (r : R.Moved). course (r .state) ≡ course s) _ (λ w. block-keeps course (λ x t. refl) l s)
+      (λ w. read-course l s (λ d v u. n (B.slice g w d v u))))
 
   block-kept : both (isGood (block m l)) (not (isSet m)) ≡ false → isOutgoing (s .transfer .direction) ≡ false
       → step (block m l) s .state .fifo ≡ s .fifo
@@ -132,15 +144,15 @@ module _ (m : ℕ) (l : List ℕ) (s : State) (g : isGood (block m l) ≡ true) 
       (by-case (λ (x : R.Moved). x .state .fifo ≡ s .fifo) _ (λ w. ap (λ (t : State). t .fifo) (block-not-written l s o))
       (λ w. clash refl (rw (g, w) at r)))
 
-data-stays : (c : Call) (s : State) → isDataAccess c s ≡ true → (ReadsLast c s → ⊥) → step c s .state .transfer ≡ s .transfer
+data-stays : (c : Call) (s : State) → isDataAccess c s ≡ true → (ReadsLast c s → ⊥) → course (step c s .state) ≡ course s
 unfolding both either
 data-stays (pointer m b) s a n = clash a refl
 data-stays auxiliary s a n = clash a refl
 data-stays (register m b) s a n =
     by-test (isGood (register m b)) (λ g. register-stays m b s a g n)
-    (λ g. ap (λ (t : State). t .transfer) (refuses-bad (register m b) s g .same))
+    (λ g. ap course (refuses-bad (register m b) s g .same))
 data-stays (block m l) s a n =
-    by-test (isGood (block m l)) (λ g. block-stays m l s g n) (λ g. ap (λ (t : State). t .transfer) (refuses-bad (block m l) s g .same))
+    by-test (isGood (block m l)) (λ g. block-stays m l s g n) (λ g. ap course (refuses-bad (block m l) s g .same))
 data-stays (time k) s a n = clash a refl
 data-stays answer s a n = clash a refl
 data-stays (reselection lines) s a n = clash a refl
@@ -174,13 +186,18 @@ module _ (c : Call) (s : State) (e : inEnding s ≡ true) (x : isDropped c s ≡
   unfolding isDropped
   no-disconnect = either-rest (isReset c s) _ x
 
-  stays : (ReadsLast c s → ⊥) → step c s .state .status .pending ≡ s .status .pending
-  stays n = pending-stays e no-reset no-disconnect n (told c s .tells)
+  course-stays : (ReadsLast c s → ⊥) → course (step c s .state) ≡ course s
+  course-stays n =
+      by-test (isEvent c) (λ v. ap course (ending-is-still c s e v .same))
+      (λ v. by-test (isDataAccess c s) (λ a. data-stays c s a n)
+      (λ a. let h = host-stays s e c v no-reset no-disconnect a in
+      ap₂ (λ (x : Activity) (y : Transfer). record { activity = x; transfer = y }) (h .activity) (h .transfer)))
+
+  stays : (ReadsLast c s → ⊥) → step c s .state .activity ≡ s .activity
+  stays n = ap (λ (x : Course). x .activity) (course-stays n)
 
   transfer-stays : (ReadsLast c s → ⊥) → step c s .state .transfer ≡ s .transfer
-  transfer-stays n =
-      by-test (isEvent c) (λ v. ap (λ (t : State). t .transfer) (ending-is-still c s e v .same))
-      (λ v. by-test (isDataAccess c s) (λ a. data-stays c s a n) (λ a. host-stays s e c v no-reset no-disconnect a .transfer))
+  transfer-stays n = ap (λ (x : Course). x .transfer) (course-stays n)
 
   bytes-stay : isDataRead c s ≡ false → both (isOutgoing (s .transfer .direction)) (isDataAccess c s) ≡ false
       → step c s .state .fifo ≡ s .fifo
@@ -193,18 +210,19 @@ module _ (c : Call) (s : State) (e : inEnding s ≡ true) (x : isDropped c s ≡
 
 settled-bytes : (s : State) → isIncoming (s .transfer .direction) ≡ true → settled s .fifo ≡ s .fifo
 unfolding settled settledBy raise outgoingDropped
-settled-bytes s d = by-pick (λ (t : State). t .fifo ≡ s .fifo) _ (by-pending (s .status .pending)) refl
+settled-bytes s d = by-pick (λ (t : State). t .fifo ≡ s .fifo) _ (by-activity (s .activity)) refl
   where
     by-way : (x : Direction) → isIncoming x ≡ true → withoutOutgoing x (s .fifo) ≡ s .fifo
     by-way Unfixed d = refl
     by-way In d = refl
     by-way Out d = clash d refl
 
-    by-pending : (q : Pending) → settledBy q s .fifo ≡ s .fifo
-    by-pending Nothing = refl
-    by-pending Interrupt = refl
-    by-pending (Ending k) = by-way (s .transfer .direction) d
-    by-pending ReadOut = refl
+    by-activity : (a : Activity) → settledBy a s .fifo ≡ s .fifo
+    by-activity Is.Idle = refl
+    by-activity Is.Interrupt = refl
+    by-activity (Is.Runs r) = refl
+    by-activity (Is.Ends r k) = by-way (s .transfer .direction) d
+    by-activity (Is.ReadOut r) = refl
 
 reads-front : (c : Call) (s : State) → bytesUnread s ≡ true → readsAt 0x19 c s ≡ true
     → (step c s .answer ≡ Done (front (s .fifo))) × (step c s .state .fifo ≡ pop (s .fifo))
@@ -216,14 +234,29 @@ reads-front c s u e =
     rw (h .gives, data-reachable (h .byte) s, data-read s d w) (refl, settled-bytes (setFifo (pop (s .fifo)) s) d)
 
 -- the read-out with no code to come, when its last byte is read
-waits-then : {c : Call} {s : State} → s .status .pending ≡ ReadOut → ReadsLast c s
-    → (step c s .state .status .pending ≡ Nothing) × (step c s .state .wire .connection ≡ Waiting)
+reads-out-of : (a : Activity) → pendingIn a ≡ ReadOut → (r : Command) × (a ≡ Is.ReadOut r)
+reads-out-of Is.Idle p = clash refl (ap isEnd (sym p))
+reads-out-of Is.Interrupt p = clash refl (ap isEnd (sym p))
+reads-out-of (Is.Runs r) p = clash refl (ap isEnd (sym p))
+reads-out-of (Is.Ends r k) p = absurd (no-code p)
+  where
+    no-code : Ending k ≡ ReadOut → ⊥
+    no-code e = let z : _≡_ {A = ℕ} 0 1 = cc in omega arith
+reads-out-of (Is.ReadOut r) p = (r, refl)
+
+waits-then : {c : Call} {s : State} → pending s ≡ ReadOut → ReadsLast c s
+    → (pending (step c s .state) ≡ Nothing) × (runningNumber (step c s .state .activity) ≡ runningNumber (s .activity))
+    × (step c s .state .wire .connection ≡ Waiting)
 unfolding settledBy
 waits-then {c} {s} p l =
     let h = last-stands l in
-    let z : summary (step c s .state) ≡ summary (settledBy ReadOut (setFifo (h .0) s)) =
-    h .1 ∙ ap (λ (q : Pending). summary (settledBy q (setFifo (h .0) s))) p in
-    (ap (λ (x : Summary). x .pending) z, ap (λ (x : Summary). x .connection) z)
+    let r : (r : Command) × (s .activity ≡ Is.ReadOut r) = reads-out-of (s .activity) p in
+    let z : summary (step c s .state) ≡ summary (settledBy (Is.ReadOut (r .0)) (setFifo (h .0) s)) =
+    h .1 ∙ ap (λ (a : Activity). summary (settledBy a (setFifo (h .0) s))) (r .1) in (
+      ap (λ (x : Summary). pendingIn (x .activity)) z,
+      ap (λ (x : Summary). runningNumber (x .activity)) z ∙ sym (ap runningNumber (r .1)),
+      ap (λ (x : Summary). x .connection) z,
+    )
 
 -- the call that begins it
 
@@ -241,14 +274,14 @@ disconnect-drops c s e i =
     let h : Issued 0x04 c s = issued 0x04 c s (both-first _ _ e) in
     let g = disconnect-gives (h .byte) s (h .code) i (both-second (isCommand 0x04 c s) _ e) in
     rw (h .leaves, g)
-    (record { pending = refl; connection = refl; running = refl; way = refl; bytes = refl; atn = refl; ack = refl })
+    (record { activity = refl; connection = refl; way = refl; bytes = refl; atn = refl; ack = refl })
 
 reset-drops : (c : Call) (s : State) → isReset c s ≡ true → ResetDropped s (step c s .state)
 unfolding isReset commanded reset R.stepped pick
 reset-drops c s e =
     let h : Issued 0x00 c s = issued 0x00 c s e in
     rw (h .leaves, h .code)
-    (record { pending = refl; connection = refl; transfer = refl; bytes = refl; atn = refl; ack = refl; identity = refl })
+    (record { activity = refl; connection = refl; transfer = refl; bytes = refl; atn = refl; ack = refl; identity = refl })
 
 pub ending-stays : EndingStays step
 ending-stays =

@@ -18,23 +18,24 @@ use Rattle.chip.proofs.Numbers.{is-selecting}
 use Rattle.chip.specs.Choice.{pick, both, either}
 use Rattle.chip.specs.State.{fresh}
 use Rattle.chip.specs.Phases.{phaseOf, phaseNumber}
-use Rattle.chip.specs.Interrupts.{interrupted, isInterrupt, busy, bytesUnread, isEnding}
-use Rattle.chip.specs.Running.{isRunning}
+use Rattle.chip.specs.Interrupts.{interrupted, busy, bytesUnread}
+use Rattle.chip.specs.Activity.{goesOn}
 use Rattle.chip.specs.Commands.{abortPhase, resetCode}
 use Rattle.chip.specs.Connections.{isSelecting}
 use Rattle.chip.specs.Calls.{Call, Outcome, time, answer, reselection, request, free, step, run}
 use Rattle.chip.specs.declared.State.{State}
 use Rattle.chip.specs.declared.Phase.{Phase}
 use Rattle.chip.specs.declared.Phase.the-variants.{DataOut, DataIn, CommandOut, StatusIn, UnspecifiedOut, UnspecifiedIn, MessageOut, MessageIn}
-use Rattle.chip.specs.declared.Pending.the-variants.{Nothing, Ending}
 use Rattle.chip.specs.declared.Connection.{Connection}
 use Rattle.chip.specs.declared.Connection.the-variants.{Disconnected, Selecting, Waiting, Connected}
-use Rattle.unread.specs.Status.{isCommand, isReset, isSelection, isAnswer}
+use Rattle.unread.specs.Status.{Ending, pending, isCommand, isReset, isSelection, isAnswer}
 use Rattle.unread.specs.Because as B
 use Rattle.unread.specs.Because.{Brings, Begins, ReadsOut, Because, isIdle}
 use Rattle.unread.specs.Codes as C
 use Rattle.unread.specs.Codes.{Raises, Since, Selects, EndingsBegun, Unanswered, SelectionsBegun, CodesOnlyBy}
 use Rattle.unread.proofs.Choosing.{clash}
+use Rattle.unread.proofs.Pendings.{isEnd, int-by, going-quiet}
+use Rattle.chip.proofs.Activities.{going-runs, going-unread}
 use Rattle.unread.proofs.Telling.{settles-apart, Summary, summary, Tells, silent, moves, selects, settles, begins, raises, reads, resets, gone, there}
 use Rattle.unread.proofs.Told.{told}
 use Rattle.unread.proofs.Because.{raised-because, ending-because, brings-row, reads-row}
@@ -57,23 +58,23 @@ pub endings-begun : EndingsBegun step
 unfolding run
 endings-begun =
     record {
-      begun = λ l k. by-calls (Begun k) (λ e. clash (ap isEnding e) refl)
+      begun = λ l k. by-calls (Begun k) (λ e. clash (ap isEnd e) refl)
           (λ l c h e. ⊎-elim (λ p. C.still l c (h p) p) (C.now l c)
           (ending-because .sound c (run step l fresh) k (sym (pending-more l c) ∙ e))) l;
     }
   where
     Begun : ℕ → List Call → Type 0
-    Begun k l = run step l fresh .status .pending ≡ Ending k → Since step (λ c s. Begins c s k) (λ c s. s .status .pending ≡ Ending k) l
+    Begun k l = pending (run step l fresh) ≡ Ending k → Since step (λ c s. Begins c s k) (λ c s. pending s ≡ Ending k) l
 
     pending-more : (l : List Call) (c : Call)
-        → run step (l ++ (c ∷ [])) fresh .status .pending ≡ step c (run step l fresh) .state .status .pending
-    pending-more l c = ap (λ (t : State). t .status .pending) (run-more step l c fresh)
+        → pending (run step (l ++ (c ∷ [])) fresh) ≡ pending (step c (run step l fresh) .state)
+    pending-more l c = ap pending (run-more step l c fresh)
 
 -- a selection
 
--- a state that selects has nothing pending, and its command runs
+-- a state that selects does so by a command that goes on
 abbrev Sound : Summary → Type 0
-Sound z = (z .pending ≡ Nothing) × (isRunning (z .running) ≡ true)
+Sound z = goesOn (z .activity) ≡ true
 
 -- a call that begins a selection, as it finds the controller
 record Beginning (c : Call) (s : State) : Type 0 where
@@ -87,16 +88,16 @@ course : {c : Call} {s : State} {z : Summary} → Tells c s z → (s .wire .conn
     → isSelecting (z .connection) ≡ true
     → Sound z × (((s .wire .connection ≡ Selecting) × (isAnswer c ≡ false)) ⊎ Beginning c s)
 course {s = s} (silent a) h e =
-    let x = is-selecting (s .wire .connection) e in (h x, inl (x, a (h x .0)))
-course (moves f) h e = clash e f
-course (selects f q x b r) h e = ((q, r), inr (record { command = f; apart = x; idle = b; all-told = ap isInterrupt q }))
+    let x = is-selecting (s .wire .connection) e in (h x, inl (x, a (W.selecting-now s (h x) x)))
+course (moves f p) h e = clash e f
+course {s = s} (selects f q x b) h e = (refl, inr (record { command = f; apart = x; idle = b; all-told = int-by s q }))
 course (settles f) h e = clash e (settles-apart f)
 course (begins q b f) h e = clash e f
 course (raises i b (gone f)) h e = clash e f
 course {s = s} (raises i b (there f)) h e =
-    let x = h (is-selecting (s .wire .connection) e) in clash (x .1) (f (x .0))
+    let x = h (is-selecting (s .wire .connection) e) in clash (going-runs (s .activity) x) (f (going-quiet s x))
 course {s = s} (reads d a) h e =
-    let x = is-selecting (s .wire .connection) e in ((rw (h x .0), h x .1), inl (x, a))
+    let x = is-selecting (s .wire .connection) e in (going-unread (s .activity) (h x), inl (x, a))
 course (resets d f) h e = clash e f
 
 abbrev Selected : List Call → Type 0
@@ -150,7 +151,7 @@ Explains timing c s = (n : ℕ) × (c ≡ time n) × (s .wire .connection ≡ Se
 Explains reselecting c s = (lines : ℕ) × (c ≡ reselection lines)
 Explains (asking p) c s =
     (n : ℕ) × (b : ℕ) × (m : ℕ) × (c ≡ request n b m) × (phaseOf n ≡ p) × (s .wire .connection ≡ Connected)
-    × (isIdle (s .transfer .running) ≡ true)
+    × (isIdle (s .activity) ≡ true)
 Explains other c s = Unit {0}
 
 each-phase : (P : Phase → Type 0) → P DataOut → P DataIn → P CommandOut → P StatusIn → P UnspecifiedOut → P UnspecifiedIn → P MessageOut
@@ -184,7 +185,7 @@ unfolding reasonOf Explains pick both either isResetCode
 brings-explained (B.completes o t g e h) u = brings-row (B.completes o t g e h) .all-read u
 brings-explained (B.overruns {p = p} o r e) u = rw (phased p .0) tt
 brings-explained (B.saves o t g e h) u = tt
-brings-explained (B.aborts-connected {s = s} e q r x) u = rw (phased (abortPhase (s .wire .seen .last)) .1) tt
+brings-explained (B.aborts-connected {s = s} e on x) u = rw (phased (abortPhase (s .wire .seen .last)) .1) tt
 brings-explained (B.cuts-info q x r e) u = refl
 brings-explained (B.cuts-transfer q x r e) u = refl
 brings-explained (B.spoils o r w c f h) u = tt
@@ -205,12 +206,12 @@ unfolding reasonOf Explains pick both either isResetCode
 explained (B.brings h u) = inr (brings-explained h u)
 explained (B.reads h) = inl h
 explained (B.resets {s = s} e) = inr (rw (reset-reason (resetCode s) (reset-code-is s)) e)
-explained (B.answers q x t) = inr (refl, x)
+explained (B.answers on x t) = inr (refl, x)
 explained (B.resumes {c} {s} k e w q r x p) = inr (W.resumes-row c s q r x p k e w .all-read refl)
 explained (B.takes-last l d) = inr tt
-explained (B.aborts e q r x) = inr e
+explained (B.aborts e on x) = inr e
 explained (B.refuses k e n q r v) = inr (k, e)
-explained (B.times-out {n} g q x t l) = inr (n, refl, x)
+explained (B.times-out {n} g on x t l) = inr (n, refl, x)
 explained (B.reselects {lines} g q f x w) = inr (lines, refl)
 explained (B.frees q x r) = inr refl
 explained (B.asks {n} {b} {m} {p} o r f) = inr (rw (asked p) (n, b, m, refl, o .phase, o .connected, r))
@@ -234,7 +235,7 @@ unfolding reasonOf EndsBy pick both either isResetCode
 brings-by (B.completes o t g e h) = tt
 brings-by (B.overruns {p = p} o r e) = rw (phased p .0) tt
 brings-by (B.saves o t g e h) = tt
-brings-by (B.aborts-connected {s = s} e q r x) = rw (phased (abortPhase (s .wire .seen .last)) .1) tt
+brings-by (B.aborts-connected {s = s} e on x) = rw (phased (abortPhase (s .wire .seen .last)) .1) tt
 brings-by (B.cuts-info q x r e) = refl
 brings-by (B.cuts-transfer q x r e) = refl
 brings-by (B.spoils o r w c f h) = tt
@@ -297,7 +298,7 @@ since-began g (C.now l c b) = g c _ b
 since-began g (C.still l c h n) = since-began g h
 
 read-out-since : {k : ℕ} (l : List Call) (c : Call) → ReadsOut c (run step l fresh) k
-    → Since step (λ d s. EndsBy (reasonOf k) d × Begins d s k) (λ d s. s .status .pending ≡ Ending k) l
+    → Since step (λ d s. EndsBy (reasonOf k) d × Begins d s k) (λ d s. pending s ≡ Ending k) l
 read-out-since {k} l c h = since-map (λ d s b. (begins-by b, b)) (λ d s n. n) (endings-begun .begun l k (h .ending))
 
 module _ (l : List Call) (c : Call) {k : ℕ} (h : Raises step l c k) where

@@ -1,7 +1,6 @@
--- In an ending no bus event changes the controller, and what the host does leaves what is pending. Bytes.antt has the rest of specs/Ending.antt.
+-- In an ending no bus event changes the controller, and what the host does leaves it as it is. Bytes.antt has the rest of specs/Ending.antt.
 --   ending-is-still   the law of the bus events
---   pending-stays     only a Reset, a Disconnect while connected or the read of its last byte ends an ending
---   Stays host-stays  every call of the host but these and accesses to the Data register leaves FIFO, command, way and connection
+--   Stays host-stays  every call of the host but these and accesses to the Data register leaves FIFO, activity, way and connection
 --   unreachable       while a command runs 18h and 19h alone are reachable
 --   Refuses refuses refuses-bad   nothing changed, and the answer is a refusal
 --   Stands stands-still   where every event comes to that, but for Time, the bus stands still
@@ -15,8 +14,8 @@ use lib.ListN.{getD}
 use Rattle.chip.specs.Choice.{pick, both, either}
 use Rattle.chip.specs.Phases.{phaseOf}
 use Rattle.chip.specs.Lines.{codeOf, qualifies}
-use Rattle.chip.specs.Interrupts.{isEnding, inEnding, busy, withoutInterrupt}
-use Rattle.chip.specs.Running.{isRunning}
+use Rattle.chip.specs.Interrupts.{inEnding, busy}
+use Rattle.chip.specs.Activity.{isEnding, goesOn, withoutInterrupt}
 use Rattle.chip.specs.Commands.{isTwo, isValid, isRefusedBusy, entryOf, table, leftOut, carriedOut, accepted, commanded}
 use Rattle.chip.specs.Answers.{done, held, outOfPlace}
 use Rattle.chip.specs.Registers as R
@@ -27,17 +26,15 @@ use Rattle.chip.specs.declared.Reply.{Reply}
 use Rattle.chip.specs.declared.Phase.{Phase}
 use Rattle.chip.specs.declared.Entry.{Entry}
 use Rattle.chip.specs.declared.Answer.the-variants.{BadNumber}
-use Rattle.chip.specs.declared.Pending.{Pending}
-use Rattle.chip.specs.declared.Pending.the-variants.{Nothing, Interrupt, Ending, ReadOut}
+use Rattle.chip.specs.declared.Activity.{Activity}
+use Rattle.chip.specs.declared.Activity.the-variants.{Idle, Interrupt, Runs, Ends, ReadOut}
 use Rattle.unread.specs.Status.{isCommand, isReset, isDisconnect}
-use Rattle.unread.specs.Because.{ReadsLast}
 use Rattle.unread.specs.Ending.{isEvent, isTime, isRefusal, Untouched, isDataAccess, EndingIsStill}
 use Rattle.chip.proofs.Cases.{by-pick, by-case, by-test, both-first, both-second, either-first, either-rest, either-second, either-last, taken, passed-over}
-use Rattle.unread.proofs.Choosing.{clash, one-or, one-of}
-use Rattle.unread.proofs.Telling.{Summary, disconnects, reads-out, has-read, read-out-quiet, Tells, silent, moves, selects, settles, begins, raises, reads, resets}
-use Rattle.unread.proofs.Host.{invalid-idle, abort-ends, is-disconnect}
+use Rattle.unread.proofs.Choosing.{clash, second-fails, one-or, one-of}
+use Rattle.unread.proofs.Host.{invalid-idle, abort-goes, is-disconnect}
 use Rattle.unread.proofs.Told.{good-step}
-use Rattle.unread.proofs.Because.{Found, quiet, reading-out, resetting, because-found}
+use Rattle.chip.proofs.Activities.{going-is-still, ending-runs}
 use Rattle.chip.specs.Connections.{isConnected}
 
 -- no bus event
@@ -95,9 +92,15 @@ module _ (s : State) (e : inEnding s ≡ true) where
   unfolding pick
   held-back r = rw e (record { same = refl; refused = refl })
 
+  -- no selection runs
+  no-selection : E.selects s ≡ false
+  unfolding E.selects
+  no-selection =
+      second-fails _ _ (by-test (goesOn (s .activity)) (λ on. clash e (going-is-still (s .activity) on .1)) (λ on. on))
+
   answer-back : Back (E.answered s)
-  unfolding E.answered E.answeredSelecting
-  answer-back = by-pick Back _ (held-back _) (record { same = refl; refused = refl })
+  unfolding E.answered
+  answer-back = by-case Back _ (λ x. clash x no-selection) (λ x. record { same = refl; refused = refl })
 
   reselection-back : (lines : ℕ) → Back (pick (isConnected (s .wire .connection)) (outOfPlace s) (E.reselectedApart lines s))
   unfolding E.reselectedApart
@@ -122,7 +125,7 @@ module _ (s : State) (e : inEnding s ≡ true) where
   unfolding E.passed E.answered E.reselected E.requested E.freed
   ending-stands =
       record {
-        time = λ n. taken _ _ e;
+        time = λ n. passed-over _ _ no-selection;
         answer = answer-back;
         reselection = λ lines.
             by-pick Back (qualifies lines s) (reselection-back lines) (record { same = refl; refused = refl });
@@ -133,31 +136,13 @@ module _ (s : State) (e : inEnding s ≡ true) where
 pub ending-is-still : EndingIsStill step
 ending-is-still c s e v = stands-still (ending-stands s e) c v
 
--- what is pending stays
-
-same-ending : (q : Pending) → isEnding q ≡ true → withoutInterrupt q ≡ q
-same-ending Nothing e = clash e refl
+-- a read of 17h, were it not Blind, would leave an ending
+same-ending : (a : Activity) → isEnding a ≡ true → withoutInterrupt a ≡ a
+same-ending Idle e = clash e refl
 same-ending Interrupt e = clash e refl
-same-ending (Ending k) e = refl
-same-ending ReadOut e = refl
-
-module _ {c : Call} {s : State} (e : inEnding s ≡ true) (r : isReset c s ≡ false) (d : isDisconnect c s ≡ false) (n : ReadsLast c s → ⊥) where
-  found-ends : {P : Type 0} {k : ℕ} → Found c s k → P
-  found-ends (quiet q) = clash e (ap isEnding q)
-  found-ends (reading-out h) = absurd (n (h .last))
-  found-ends (resetting f) = clash f r
-
-  pub pending-stays : {z : Summary} → Tells c s z → z .pending ≡ s .status .pending
-  pending-stays (silent a) = refl
-  pending-stays (moves x) = refl
-  pending-stays (selects f q x b m) = refl
-  pending-stays (settles (disconnects f i)) = clash f d
-  pending-stays (settles (reads-out h)) = clash e (ap isEnding (read-out-quiet h))
-  pending-stays (settles (has-read q l)) = absurd (n l)
-  pending-stays (begins q h x) = clash e (ap isEnding q)
-  pending-stays (raises i h x) = found-ends (because-found h)
-  pending-stays (reads f a) = same-ending (s .status .pending) e
-  pending-stays (resets f x) = clash f r
+same-ending (Runs r) e = clash e refl
+same-ending (Ends r k) e = refl
+same-ending (ReadOut r) e = refl
 
 -- commands in an ending: only those of Level I get through, and of these Abort is not valid
 
@@ -204,19 +189,20 @@ unreachable s w a r h m n =
     let f : both (busy s) (not (either (eqb a 0x18) (eqb a 0x19))) ≡ false = either-rest (both w (eqb a 0x17)) _ (either-rest (leb 0x1A a) _ h) in
     clash refl (rw (r, m, n) at f)
 
--- the FIFO, the running command with its way, and the connection stay
+-- the FIFO, the activity with its way, and the connection stay
 pub record Stays (s t : State) : Type 0 where
   pub bytes : t .fifo ≡ s .fifo
+  pub activity : t .activity ≡ s .activity
   pub transfer : t .transfer ≡ s .transfer
   pub connection : t .wire .connection ≡ s .wire .connection
 
 pub stay : (s : State) → Stays s s
-stay s = record { bytes = refl; transfer = refl; connection = refl }
+stay s = record { bytes = refl; activity = refl; transfer = refl; connection = refl }
 
 module _ (s : State) (e : inEnding s ≡ true) where
   is-busy : busy s ≡ true
   unfolding busy
-  is-busy = rw e (either-last (isRunning (s .transfer .running)))
+  is-busy = ending-runs (s .activity) e
 
   -- what is not refused is of Level I
   unrefused : (k : ℕ) → isRefusedBusy k s ≡ false → isLevelOne k ≡ true
@@ -228,11 +214,11 @@ module _ (s : State) (e : inEnding s ≡ true) where
   unfolding carriedOut accepted pick
   carried-stays b k single l =
       each-level-one (λ (j : ℕ). eqb j 0x00 ≡ false → eqb j 0x04 ≡ false → isValid j s ≡ true → Stays s (carriedOut j single (accepted b s)))
-      k l (λ z f v. clash refl z) (λ z f v. clash e (abort-ends 0x01 s refl v))
-      (λ z f v. record { bytes = refl; transfer = refl; connection = refl })
-      (λ z f v. record { bytes = refl; transfer = refl; connection = refl })
+      k l (λ z f v. clash refl z) (λ z f v. clash e (going-is-still (s .activity) (abort-goes 0x01 s refl v) .1))
+      (λ z f v. record { bytes = refl; activity = refl; transfer = refl; connection = refl })
+      (λ z f v. record { bytes = refl; activity = refl; transfer = refl; connection = refl })
       (λ z f v. clash refl f)
-      (λ z f v. record { bytes = refl; transfer = refl; connection = refl })
+      (λ z f v. record { bytes = refl; activity = refl; transfer = refl; connection = refl })
 
   abbrev Leaves : Reply → Type 0
   Leaves r = Stays s (r .state)
@@ -242,8 +228,8 @@ module _ (s : State) (e : inEnding s ≡ true) where
   unfolding commanded accepted
   commanded-stays b n d =
       by-case Leaves _ (λ z. clash z n)
-      (λ z. by-case Leaves _ (λ i. record { bytes = refl; transfer = refl; connection = refl })
-      (λ i. by-case Leaves _ (λ r. record { bytes = refl; transfer = refl; connection = refl })
+      (λ z. by-case Leaves _ (λ i. record { bytes = refl; activity = refl; transfer = refl; connection = refl })
+      (λ i. by-case Leaves _ (λ r. record { bytes = refl; activity = refl; transfer = refl; connection = refl })
       (λ r. by-case Leaves _
       (λ v. by-test (eqb (codeOf b) 0x04) (λ f. clash v (d f)) (λ f. carried-stays b (codeOf b) _ (unrefused (codeOf b) r) n f v))
       (λ v. clash is-busy (invalid-idle (codeOf b) s r v)))))
@@ -251,7 +237,7 @@ module _ (s : State) (e : inEnding s ≡ true) where
   read-stays : (a : ℕ) → eqb a 0x19 ≡ false → Leaves (R.readAt a s)
   unfolding R.readAt
   read-stays a n =
-      by-pick Leaves _ (record { bytes = refl; transfer = refl; connection = refl })
+      by-pick Leaves _ (record { bytes = refl; activity = same-ending (s .activity) e; transfer = refl; connection = refl })
       (by-pick Leaves _ (stay s) (by-case Leaves _ (λ f. clash f n) (λ f. stay s)))
 
   module _ (m b : ℕ) (g : isGood (register m b) ≡ true) (r : isReset (register m b) s ≡ false) (d : isDisconnect (register m b) s ≡ false) where
@@ -269,14 +255,14 @@ module _ (s : State) (e : inEnding s ≡ true) where
     access-stays n =
         let h : Leaves (R.accessedAt (s .status .pointer) (isSet m) b s) =
         by-case Leaves _ (λ h. stay s) (λ h. by-case Leaves _ (λ w. written-stays w n h) (λ w. read-stays (s .status .pointer) n)) in
-        record { bytes = h .bytes; transfer = h .transfer; connection = h .connection }
+        record { bytes = h .bytes; activity = h .activity; transfer = h .transfer; connection = h .connection }
 
   -- every call of the host but an access to the Data register
   pub host-stays : (c : Call) → isEvent c ≡ false → isReset c s ≡ false → isDisconnect c s ≡ false → isDataAccess c s ≡ false
       → Stays s (step c s .state)
   unfolding step carried R.pointerSet R.pointerRead R.auxiliaryRead both either
   host-stays (pointer m b) v r d n =
-      by-pick (λ (o : Outcome). Stays s (o .state)) _ (by-pick Leaves _ (record { bytes = refl; transfer = refl; connection = refl }) (stay s)) (stay s)
+      by-pick (λ (o : Outcome). Stays s (o .state)) _ (by-pick Leaves _ (record { bytes = refl; activity = refl; transfer = refl; connection = refl }) (stay s)) (stay s)
   host-stays auxiliary v r d n = by-pick (λ (o : Outcome). Stays s (o .state)) _ (stay s) (stay s)
   host-stays (register m b) v r d n = by-case (λ (o : Outcome). Stays s (o .state)) _ (λ g. access-stays m b g r d n) (λ g. stay s)
   host-stays (block m l) v r d n = clash refl n

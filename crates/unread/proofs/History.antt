@@ -8,17 +8,19 @@ use mathlib.Core.Bool.{true, false}
 use mathlib.Core.List.{List, [], _∷_, _++_}
 use Prim.Native.Nat.{ℕ}
 use Rattle.chip.specs.Choice.{pick, both, either}
-use Rattle.chip.specs.Interrupts.{interrupted, isInterrupt, isEnding, busy, withoutInterrupt}
-use Rattle.chip.specs.Running.{isRunning}
+use Rattle.chip.specs.Interrupts.{interrupted, inEnding}
+use Rattle.chip.specs.Activity.{isInterrupt, isEnding, withoutInterrupt}
 use Rattle.chip.specs.Calls.{Call, Outcome, step, run}
 use Rattle.chip.specs.declared.State.{State}
-use Rattle.chip.specs.declared.Pending.{Pending}
-use Rattle.chip.specs.declared.Pending.the-variants.{Nothing, Interrupt, Ending, ReadOut}
-use Rattle.unread.specs.Status.{isReset, isDisconnect, readsAt}
+use Rattle.chip.specs.declared.Activity.{Activity}
+use Rattle.chip.specs.declared.Activity.the-variants as A
+use Rattle.unread.specs.Status.{Pending, Nothing, Interrupt, Ending, ReadOut, pendingIn, pending, isReset, isDisconnect, readsAt}
 use Rattle.unread.specs.History as H
 use Rattle.unread.specs.History.{Happening, Owed, nothing, unread, coming, owedBy, isComing, noted, readBy, begunBy, history, lastCode, owedAfter, Orderly, Follows, isRaising, hasRead, NoStatusLost}
-use Rattle.chip.proofs.Cases.{by-case, both-first, both-second, either-rest}
+use Rattle.chip.proofs.Cases.{by-case, both-first, both-second}
 use Rattle.unread.proofs.Choosing.{clash}
+use Rattle.unread.proofs.Pendings.{isInt, isEnd, int-is}
+use Rattle.unread.proofs.Host.{not-busy-ends}
 use Rattle.unread.proofs.Telling.{disconnects, reads-out, has-read, read-out-quiet, Summary, Tells, silent, moves, selects, settles, begins, raises, reads, resets}
 use Rattle.unread.proofs.Told.{told, reset-told, disconnect-told, ReadTold, blind, read, status-read}
 use Rattle.unread.proofs.Unread.{int-pending, raised-from-quiet, raised-sets-int, raised-anew}
@@ -35,11 +37,11 @@ data Leads : ℕ → Pending → ℕ → Pending → List Happening → Type 0 w
   disconnect : {k j : ℕ} → Leads k (Ending j) k Nothing (H.disconnects ∷ [])
 
 -- a code is raised: nothing is owed, or that code is to come
-raise-leads : {c : Call} {s : State} {j k : ℕ} → Found c s j → isReset c s ≡ false → (q : Pending) → s .status .pending ≡ q
-    → isInterrupt q ≡ false → Leads k q j Interrupt (H.raises j ∷ [])
+raise-leads : {c : Call} {s : State} {j k : ℕ} → Found c s j → isReset c s ≡ false → (q : Pending) → pending s ≡ q
+    → isInt q ≡ false → Leads k q j Interrupt (H.raises j ∷ [])
 raise-leads h r Nothing e i = raise refl
 raise-leads h r Interrupt e i = clash refl i
-raise-leads (quiet p) r (Ending k) e i = clash (ap isEnding e) (ap isEnding p)
+raise-leads (quiet p) r (Ending k) e i = clash (ap isEnd e) (ap isEnd p)
 raise-leads {j = j} (reading-out h) r (Ending k) e i = rw (same (sym e ∙ h .ending)) raise-owed
   where
     same : Ending k ≡ Ending j → k ≡ j
@@ -53,25 +55,25 @@ disconnect-leads Interrupt e = clash e refl
 disconnect-leads (Ending j) e = disconnect
 disconnect-leads ReadOut e = clash e refl
 
-coming-quiet : (q : Pending) → isComing q ≡ true → isInterrupt q ≡ false
+coming-quiet : (q : Pending) → isComing q ≡ true → isInt q ≡ false
 coming-quiet Nothing e = refl
 coming-quiet Interrupt e = clash e refl
 coming-quiet (Ending j) e = refl
 coming-quiet ReadOut e = refl
 
 -- 17h is read with no ending under way
-read-owes : (q : Pending) → isEnding q ≡ false → (isComing q ≡ false) × (owedBy (withoutInterrupt q) ≡ nothing)
-read-owes Nothing e = (refl, refl)
-read-owes Interrupt e = (refl, refl)
-read-owes (Ending k) e = clash refl e
-read-owes ReadOut e = clash refl e
+read-owes : (a : Activity) → isEnding a ≡ false → (isComing (pendingIn a) ≡ false) × (owedBy (pendingIn (withoutInterrupt a)) ≡ nothing)
+read-owes A.Idle e = (refl, refl)
+read-owes A.Interrupt e = (refl, refl)
+read-owes (A.Runs r) e = (refl, refl)
+read-owes (A.Ends r k) e = clash refl e
+read-owes (A.ReadOut r) e = clash refl e
 
 read-leads : {s : State} {o : Outcome} → ReadTold s o
-    → Leads (s .status .code) (s .status .pending) (o .state .status .code) (o .state .status .pending) (readBy (o .answer))
-unfolding busy
+    → Leads (s .status .code) (pending s) (o .state .status .code) (pending (o .state)) (readBy (o .answer))
 read-leads (blind b a k q) = rw (a, k, q) (still refl)
 read-leads {s} (read b a k q) =
-    let e = read-owes (s .status .pending) (either-rest (isRunning (s .transfer .running)) _ b) in rw (a, k, q) (tell (e .0) (e .1))
+    let e = read-owes (s .activity) (not-busy-ends s b) in rw (a, k, q) (tell (e .0) (e .1))
 
 same-begun : (q : Pending) → begunBy q q ≡ []
 unfolding pick
@@ -80,7 +82,7 @@ same-begun Interrupt = refl
 same-begun (Ending k) = refl
 same-begun ReadOut = refl
 
-owes-nothing : (q : Pending) → isInterrupt q ≡ false → isComing q ≡ false → owedBy q ≡ nothing
+owes-nothing : (q : Pending) → isInt q ≡ false → isComing q ≡ false → owedBy q ≡ nothing
 owes-nothing Nothing i e = refl
 owes-nothing Interrupt i e = clash refl i
 owes-nothing (Ending k) i e = clash refl e
@@ -88,38 +90,38 @@ owes-nothing ReadOut i e = refl
 
 -- a call that is no Reset, raises nothing, drops nothing and does not read 17h
 calm-leads : {c : Call} {s : State} {z : Summary} → Tells c s z → isReset c s ≡ false
-    → (interrupted s ≡ false → isInterrupt (z .pending) ≡ true → ⊥) → both (isDisconnect c s) (isComing (s .status .pending)) ≡ false
+    → (interrupted s ≡ false → isInterrupt (z .activity) ≡ true → ⊥) → both (isDisconnect c s) (isComing (pending s)) ≡ false
     → readsAt 0x17 c s ≡ false
-    → Leads (s .status .code) (s .status .pending) (z .code) (z .pending) (begunBy (s .status .pending) (z .pending))
+    → Leads (s .status .code) (pending s) (z .code) (pendingIn (z .activity)) (begunBy (pending s) (pendingIn (z .activity)))
 unfolding both pick
-calm-leads {s = s} (silent a) r n d e = rw (same-begun (s .status .pending)) (still refl)
-calm-leads {s = s} (moves x) r n d e = rw (same-begun (s .status .pending)) (still refl)
-calm-leads {s = s} (selects f q x b m) r n d e = rw (same-begun (s .status .pending)) (still refl)
-calm-leads {s = s} (settles (disconnects f i)) r n d e = still (sym (owes-nothing (s .status .pending) i (rw f at d)))
+calm-leads {s = s} (silent a) r n d e = rw (same-begun (pending s)) (still refl)
+calm-leads {s = s} (moves x p) r n d e = rw (p, same-begun (pending s)) (still refl)
+calm-leads (selects f q x b) r n d e = still (ap owedBy (sym q))
+calm-leads {s = s} (settles (disconnects f i)) r n d e = still (sym (owes-nothing (pending s) (sym (int-is (s .activity)) ∙ i) (rw f at d)))
 calm-leads (settles (reads-out h)) r n d e = still (ap owedBy (sym (read-out-quiet h)))
-calm-leads (settles (has-read q l)) r n d e = still (ap owedBy (sym q))
+calm-leads (settles (has-read q l)) r n d e = still (ap (λ (a : Activity). owedBy (pendingIn a)) (sym q))
 calm-leads (begins q h x) r n d e = rw q (begin refl)
 calm-leads (raises i h x) r n d e = absurd (n i refl)
 calm-leads (reads f a) r n d e = clash f e
 calm-leads (resets f x) r n d e = clash f r
 
 leads : (c : Call) (s : State)
-    → Leads (s .status .code) (s .status .pending) (step c s .state .status .code) (step c s .state .status .pending) (noted c s (step c s))
+    → Leads (s .status .code) (pending s) (step c s .state .status .code) (pending (step c s .state)) (noted c s (step c s))
 unfolding noted
 leads c s =
     by-case So _ (λ r. rw (reset-told c s r .0, reset-told c s r .1) reset)
     (λ r. by-case So _
     (λ e. rw (int-pending (step c s .state) .0 (raised-sets-int c s _ e))
-    (raise-leads (because-found (raised-because .sound c s e)) r (s .status .pending) refl (raised-from-quiet c s r e)))
+    (raise-leads (because-found (raised-because .sound c s e)) r (pending s) refl (sym (int-is (s .activity)) ∙ raised-from-quiet c s r e)))
     (λ n. by-case So _
     (λ d. let k = both-second (isDisconnect c s) _ d in
-    let t = disconnect-told c s (both-first _ _ d) (coming-quiet (s .status .pending) k) in
-    rw (t .0, t .1) (disconnect-leads (s .status .pending) k))
+    let t = disconnect-told c s (both-first _ _ d) (int-is (s .activity) ∙ coming-quiet (pending s) k) in
+    rw (t .0, t .1) (disconnect-leads (pending s) k))
     (λ d. by-case So _ (λ e. read-leads (status-read c s e))
     (λ e. calm-leads (told c s .tells) r (λ j i. clash (raised-anew c s _ i j) n) d e))))
   where
     So : List Happening → Type 0
-    So h = Leads (s .status .code) (s .status .pending) (step c s .state .status .code) (step c s .state .status .pending) h
+    So h = Leads (s .status .code) (pending s) (step c s .state .status .code) (pending (step c s .state)) h
 
 -- an orderly history, with what one call did before it
 preceded : {k j : ℕ} {q p : Pending} {h l : List Happening} → Leads k q j p h → Orderly j (owedBy p) l → Orderly k (owedBy q) (h ++ l)
@@ -159,12 +161,12 @@ code-last [] s = refl
 code-last (c ∷ l) s = code-last l (step c s .state) ∙ last-with (history step l (step c s .state)) (leads c s)
 
 owed-last : (l : List Call) (s : State)
-    → owedBy (run step l s .status .pending) ≡ owedAfter (owedBy (s .status .pending)) (history step l s)
+    → owedBy (pending (run step l s)) ≡ owedAfter (owedBy (pending s)) (history step l s)
 unfolding run history
 owed-last [] s = refl
 owed-last (c ∷ l) s = owed-last l (step c s .state) ∙ owed-with (history step l (step c s .state)) (leads c s)
 
-in-order : (l : List Call) (s : State) → Orderly (s .status .code) (owedBy (s .status .pending)) (history step l s)
+in-order : (l : List Call) (s : State) → Orderly (s .status .code) (owedBy (pending s)) (history step l s)
 unfolding history
 in-order [] s = H.over
 in-order (c ∷ l) s = preceded (leads c s) (in-order l (step c s .state))
@@ -212,9 +214,9 @@ no-status-lost =
       pending-is-owed = owed-last;
       orderly = in-order;
       read-between = λ l s g h j x k e r.
-          let o : Orderly (s .status .code) (owedBy (s .status .pending)) (g ++ (x ∷ (h ++ (H.raises k ∷ j)))) = rw e at (in-order l s) in
+          let o : Orderly (s .status .code) (owedBy (pending s)) (g ++ (x ∷ (h ++ (H.raises k ∷ j)))) = rw e at (in-order l s) in
           read-before k j h (after-raising x r (later g _ o .2) .1);
       raised-in-turn = λ l s g h k e.
-          let o : Orderly (s .status .code) (owedBy (s .status .pending)) (g ++ (H.begins k ∷ h)) = rw e at (in-order l s) in
+          let o : Orderly (s .status .code) (owedBy (pending s)) (g ++ (H.begins k ∷ h)) = rw e at (in-order l s) in
           after-beginning (later g _ o .2);
     }

@@ -7,7 +7,7 @@
 --   written-keeps block-keeps stored-keeps   what does not look at the FIFO, or at the registers, is kept by a write of them
 --   going             what holds where a block goes on and where it stops
 --   Drains then block-drains          what several lead to, a block of them
---   invalid-idle select-idle abort-ends abort-runs is-disconnect   what a command that is not refused by a busy controller, or valid, finds
+--   invalid-idle select-idle abort-goes is-disconnect   what a command that is not refused by a busy controller, or valid, finds
 --   not-busy-runs not-busy-ends       .. no command runs, and no ending is under way
 --   each-select transfer-selects      the codes of the four commands that select
 --   is-command own-code is-read       the call is that command, or that read
@@ -21,14 +21,14 @@ use lib.ListN.{length, getD, drop}
 use borrow.Author.Tests.{eqb-true, eq-eqb, not-true}
 use Rattle.chip.specs.Choice.{pick, both, either}
 use Rattle.chip.specs.Lines.{codeOf}
-use Rattle.chip.specs.Interrupts.{interrupted, inEnding, isEnding, busy, raise, outgoingDropped, settled, settledBy, bytesUnread, isIncoming}
-use Rattle.chip.specs.Running.{isRunning}
+use Rattle.chip.specs.Interrupts.{interrupted, inEnding, busy, endingWith, raise, outgoingDropped, settled, settledBy, bytesUnread, isIncoming}
+use Rattle.chip.specs.Activity.{isInterrupt, isEnding, isRunning, goesOn}
 use Rattle.chip.specs.Count.{loaded, loadedForTransferInfo, dbr}
 use Rattle.chip.specs.SelectAndTransfer.{resumed, fromDisconnected}
 use Rattle.chip.specs.Commands.{isValid, isReady, isPlace, isTwo, isRefusedBusy, leftOut, entryOf, table, reset, aborted, disconnected, selecting, selectAndTransferBegun, transferInfoBegun, carriedOut, accepted, commanded}
 use Rattle.chip.specs.Connections.{isConnected, isSelecting}
 use Rattle.chip.specs.Calls.{Call, register, block, isGood, isSet}
-use Rattle.chip.specs.State.{setRegisters, setFifo, setPending, setConnection}
+use Rattle.chip.specs.State.{setRegisters, setFifo, setActivity, setConnection}
 use Rattle.chip.specs.Fifo.{isEmpty, pop, waits}
 use Rattle.chip.specs.Registers.{Moved, goOn, dataRead, dataReadBy, dataWritten, dataWrittenBy, blockRead, blockWritten, stored, readAt, writtenAt, accessedAt, accessed, stepped}
 use Rattle.chip.specs.declared.State.{State}
@@ -36,34 +36,36 @@ use Rattle.chip.specs.declared.Fifo.{Fifo}
 use Rattle.chip.specs.declared.Registers.{Registers}
 use Rattle.chip.specs.declared.Answer.{Answer}
 use Rattle.chip.specs.declared.Answer.the-variants.{Done, Held, OutOfPlace, BadNumber, Blind, CommandIgnored, ReselectionIgnored, NoDataNow, Reported}
-use Rattle.chip.specs.declared.Pending.{Pending}
-use Rattle.chip.specs.declared.Pending.the-variants.{Nothing, Interrupt, Ending, ReadOut}
+use Rattle.chip.specs.declared.Activity.{Activity}
+use Rattle.chip.specs.declared.Activity.the-variants as A
+use Rattle.chip.specs.declared.Command.{Command}
 use Rattle.chip.specs.declared.Entry.{Entry}
 use Rattle.chip.specs.declared.Connection.{Connection}
 use Rattle.chip.specs.declared.Connection.the-variants.{Disconnected, Selecting, Waiting, Connected}
 use Rattle.chip.specs.declared.Direction.{Direction}
 use Rattle.chip.specs.declared.Direction.the-variants.{Unfixed, In, Out}
 use Rattle.chip.specs.declared.Reply.{Reply}
-use Rattle.chip.specs.declared.Running.{Running}
-use Rattle.chip.specs.declared.Running.the-variants.{Idle}
-use Rattle.unread.specs.Status.{isCommand, isReset, isSelectCode, isSelection, isDisconnect, isAnswer, readsAt}
+use Rattle.unread.specs.Status.{pendingIn, isCommand, isReset, isSelectCode, isSelection, isDisconnect, isAnswer, readsAt}
 use Rattle.unread.specs.Because as B
 use Rattle.unread.specs.Because.{Quiet, ReadsLast}
 use Rattle.chip.proofs.Cases.{by-pick, by-case, by-test, both-first, both-second, either-first, either-rest, either-second}
 use Rattle.unread.proofs.Choosing.{clash, not-first, only-first, one-or, one-of}
-use Rattle.unread.proofs.Telling.{connected-apart, Summary, summary, Tells, ToldState, so, ToldReply, disconnects, has-read, silent, moves, selects, settles, raises, reads, resets, gone, there, ended, brought, quiet-of}
+use Rattle.unread.proofs.Telling.{connected-apart, Summary, summary, Tells, ToldState, so, ToldReply, disconnects, has-read, silent, moves, selects, settles, raises, reads, resets, gone, there, brought}
+use Rattle.unread.proofs.Pendings.{isEnd, quiet-of}
+use Rattle.chip.proofs.Activities.{ending-runs}
+use Rattle.chip.proofs.Table.{isListed, unlisted, as-info}
 use Rattle.chip.proofs.Numbers.{is-selecting, is-connected, is-disconnected}
 use Rattle.chip.proofs.FifoLaws.{some-waits, none-waits, pop-less, waits-some}
 
 -- commands
 
-pub not-busy-runs : (s : State) → busy s ≡ false → isRunning (s .transfer .running) ≡ false
+pub not-busy-runs : (s : State) → busy s ≡ false → isRunning (s .activity) ≡ false
 unfolding busy
-not-busy-runs s e = either-first _ _ e
+not-busy-runs s e = e
 
 pub not-busy-ends : (s : State) → busy s ≡ false → inEnding s ≡ false
 unfolding busy
-not-busy-ends s e = either-rest (isRunning (s .transfer .running)) _ e
+not-busy-ends s e = by-test (inEnding s) (λ f. clash (ending-runs (s .activity) f) e) (λ f. f)
 
 -- a command that is not valid and not refused by a busy controller: nothing runs
 pub invalid-idle : (k : ℕ) (s : State) → isRefusedBusy k s ≡ false → isValid k s ≡ false → busy s ≡ false
@@ -130,17 +132,15 @@ valid-apart (suc (suc k)) s n o v = by-connection (s .wire .connection) (both-fi
         by-test (isSelecting x)
         (λ y. clash (rw (is-selecting x y) at e) (not-true _ (each-barred (drop 2 table) refl k))) (λ n. n)
 
+-- Level II commands that have no line of their own, Transfer Info among them: nothing runs either
+other-idle : (k : ℕ) (s : State) → isListed k ≡ false → isRefusedBusy k s ≡ false → busy s ≡ false
+unfolding isRefusedBusy either
+other-idle k s l r = not-first (busy s) _ r (rw (both-first (isTwo (entryOf k .level)) _ (as-info k l)))
+
 -- a valid Abort: a command runs, and no ending is under way
-abort-ready : (k : ℕ) (s : State) → eqb k 0x01 ≡ true → isValid k s ≡ true → both (busy s) (not (inEnding s)) ≡ true
+pub abort-goes : (k : ℕ) (s : State) → eqb k 0x01 ≡ true → isValid k s ≡ true → goesOn (s .activity) ≡ true
 unfolding isValid isReady pick
-abort-ready k s e v = rw e at (both-second (isPlace (entryOf k .place) (s .wire .connection)) _ v)
-
-pub abort-ends : (k : ℕ) (s : State) → eqb k 0x01 ≡ true → isValid k s ≡ true → inEnding s ≡ false
-abort-ends k s e v = not-true (inEnding s) (both-second (busy s) _ (abort-ready k s e v))
-
-pub abort-runs : (k : ℕ) (s : State) → eqb k 0x01 ≡ true → isValid k s ≡ true → isRunning (s .transfer .running) ≡ true
-unfolding busy
-abort-runs k s e v = only-first _ (inEnding s) (both-first (busy s) _ (abort-ready k s e v)) (abort-ends k s e v)
+abort-goes k s e v = rw e at (both-second (isPlace (entryOf k .place) (s .wire .connection)) _ v)
 
 module _
     (m b : ℕ) (s : State) (good : isGood (register m b) ≡ true) (set : isSet m ≡ true)
@@ -173,27 +173,29 @@ module _
     aborted-tells : eqb (codeOf b) 0x01 ≡ true → isValid (codeOf b) s ≡ true → Told (aborted (accepted b s))
     unfolding aborted accepted raise outgoingDropped bytesUnread
     aborted-tells e v =
-        let q : Quiet s = quiet-of _ i (abort-ends _ s e v) in
+        let on : goesOn (s .activity) ≡ true = abort-goes _ s e v in
         by-case Told _
-        (λ x. brought _ refl (connected-apart (s .wire .connection) x) refl q
-        (B.aborts-connected (is-command 0x01 e) q (abort-runs _ s e v) (is-connected _ x)))
-        (λ x. so (raises i (B.aborts (is-command 0x01 e) q (abort-runs _ s e v) x) (gone refl)))
+        (λ x. brought _ refl (connected-apart (s .wire .connection) x) refl on (B.aborts-connected (is-command 0x01 e) on (is-connected _ x)))
+        (λ x. so (raises i (B.aborts (is-command 0x01 e) on x) (gone refl)))
 
     select-quiet : isSelectCode (codeOf b) ≡ true → isRefusedBusy (codeOf b) s ≡ false → Quiet s
-    select-quiet w f = quiet-of _ i (not-busy-ends s (select-idle (codeOf b) s w f))
+    select-quiet w f = quiet-of s i (not-busy-ends s (select-idle (codeOf b) s w f))
 
-    transferring-tells : (r : Running) → isRunning r ≡ true → either (eqb (codeOf b) 0x08) (eqb (codeOf b) 0x09) ≡ true
+    transferring-tells : (r : Command) → either (eqb (codeOf b) 0x08) (eqb (codeOf b) 0x09) ≡ true
         → isRefusedBusy (codeOf b) s ≡ false → isValid (codeOf b) s ≡ true → Told (selectAndTransferBegun r (accepted b s))
-    unfolding selectAndTransferBegun resumed accepted selecting fromDisconnected loaded bytesUnread both
-    transferring-tells r n w f u =
+    unfolding selectAndTransferBegun resumed accepted selecting fromDisconnected loaded endingWith raise outgoingDropped bytesUnread both
+    transferring-tells r w f u =
         let v : isSelectCode (codeOf b) ≡ true = transfer-selects (codeOf b) w in
         let q : Quiet s = select-quiet v f in
         by-case Told _
         (λ x. by-case Told _
-        (λ h. ended _ refl (connected-apart (s .wire .connection) x) q (λ z. clash z refl)
-        (λ z. B.resumes (codeOf b) own-code w q (not-busy-runs s (select-idle (codeOf b) s v f)) (is-connected _ x) (eqb-true _ _ h)))
-        (λ h. so (moves (connected-apart (s .wire .connection) x))))
-        (λ x. so (selects (is-selection v) q (select-apart (codeOf b) s v u x) (select-idle (codeOf b) s v f) n))
+        (λ h. by-case Told _ (λ z. clash z refl)
+        (λ z. so
+        (raises i
+        (B.resumes (codeOf b) own-code w q (not-busy-runs s (select-idle (codeOf b) s v f)) (is-connected _ x) (eqb-true _ _ h))
+        (gone (connected-apart (s .wire .connection) x)))))
+        (λ h. so (moves (connected-apart (s .wire .connection) x) (sym q))))
+        (λ x. so (selects (is-selection v) q (select-apart (codeOf b) s v u x) (select-idle (codeOf b) s v f)))
 
     carried-tells : (single : Bool) → eqb (codeOf b) 0x00 ≡ false → isRefusedBusy (codeOf b) s ≡ false → isValid (codeOf b) s ≡ true
         → Told (carriedOut (codeOf b) single (accepted b s))
@@ -201,16 +203,18 @@ module _
     carried-tells single n0 r v =
         by-case Told _ (λ e. aborted-tells e v)
         (λ n1. let z : isSelecting (s .wire .connection) ≡ false = valid-apart (codeOf b) s n0 n1 v in
-        by-pick Told _ (so (moves z))
-        (by-pick Told _ (so (moves z))
-        (by-case Told _ (λ e. so (settles (disconnects (is-disconnect e v) i)))
+        by-case Told _ (λ e. so (moves z refl))
+        (λ n2. by-case Told _ (λ e. so (moves z refl))
+        (λ n3. by-case Told _ (λ e. so (settles (disconnects (is-disconnect e v) i)))
         (λ n4. by-case Told _ (λ e. let w : isSelectCode (codeOf b) ≡ true = rw e in
-        so (selects (is-selection w) (select-quiet w r) (only-apart (codeOf b) s (rw e) v) (select-idle (codeOf b) s w r) refl))
+        so (selects (is-selection w) (select-quiet w r) (only-apart (codeOf b) s (rw e) v) (select-idle (codeOf b) s w r)))
         (λ n6. by-case Told _ (λ e. let w : isSelectCode (codeOf b) ≡ true = rw (n6, e) in
-        so (selects (is-selection w) (select-quiet w r) (only-apart (codeOf b) s (rw (n6, e)) v) (select-idle (codeOf b) s w r) refl))
-        (λ n7. by-case Told _ (λ e. transferring-tells _ refl (rw e) r v)
-        (λ n8. by-case Told _ (λ e. transferring-tells _ refl (rw (n8, e)) r v)
-        (λ n9. by-pick Told _ (so (moves z)) (so (moves z))))))))))
+        so (selects (is-selection w) (select-quiet w r) (only-apart (codeOf b) s (rw (n6, e)) v) (select-idle (codeOf b) s w r)))
+        (λ n7. by-case Told _ (λ e. transferring-tells _ (rw e) r v)
+        (λ n8. by-case Told _ (λ e. transferring-tells _ (rw (n8, e)) r v)
+        (λ n9. by-case Told _ (λ e. so (moves z refl))
+        (λ n15. let idle : busy s ≡ false = other-idle (codeOf b) s (unlisted (codeOf b) n0 n1 n2 n3 n4 n6 n7 n8 n9 n15) r in
+        so (moves z (sym (quiet-of s i (not-busy-ends s idle)))))))))))))
 
   is-reset : eqb (codeOf b) 0x00 ≡ true → isReset (register m b) s ≡ true
   unfolding isReset
@@ -224,7 +228,7 @@ module _
       (λ i. by-case (ToldReply (register m b) s) _ (λ r. so still)
       (λ r. by-case (ToldReply (register m b) s) _ (carried-tells i _ n r)
       (λ v. let idle : busy s ≡ false = invalid-idle _ s r v in
-      so (raises i (B.refuses (codeOf b) own-code n (quiet-of _ i (not-busy-ends s idle)) (not-busy-runs s idle) v)
+      so (raises i (B.refuses (codeOf b) own-code n (quiet-of s i (not-busy-ends s idle)) (not-busy-runs s idle) v)
       (there (λ q. not-busy-runs s idle)))))))
 
 -- the Data register
@@ -233,27 +237,27 @@ module _
 pub data Pops (s : State) : State → Type 0 where
   nothing-read : Pops s s
   one-read : isIncoming (s .transfer .direction) ≡ true → isEmpty (s .fifo) ≡ false → Pops s (setFifo (pop (s .fifo)) s)
-  ending-read : {k : ℕ} → isIncoming (s .transfer .direction) ≡ true → waits (s .fifo) ≡ 1 → s .status .pending ≡ Ending k
+  ending-read : {r : Command} {k : ℕ} → isIncoming (s .transfer .direction) ≡ true → waits (s .fifo) ≡ 1 → s .activity ≡ A.Ends r k
       → Pops s (raise k (setFifo (pop (s .fifo)) s))
-  wait-read : isIncoming (s .transfer .direction) ≡ true → waits (s .fifo) ≡ 1 → s .status .pending ≡ ReadOut
-      → Pops s (setConnection Waiting (setPending Nothing (setFifo (pop (s .fifo)) s)))
+  wait-read : {r : Command} → isIncoming (s .transfer .direction) ≡ true → waits (s .fifo) ≡ 1 → s .activity ≡ A.ReadOut r
+      → Pops s (setConnection Waiting (setActivity (A.Runs r) (setFifo (pop (s .fifo)) s)))
 
 -- at most n reads of the Data register, made in s, leave z
 pub data Drains (n : ℕ) (s : State) : Summary → Type 0 where
   drains-nothing : Drains n s (summary s)
-  drains-wait : isIncoming (s .transfer .direction) ≡ true → 0 < waits (s .fifo) → waits (s .fifo) ≤ n → s .status .pending ≡ ReadOut
-      → Drains n s (record { code = s .status .code; pending = Nothing; connection = Waiting; running = s .transfer .running })
-  drains-ending : {k : ℕ} → isIncoming (s .transfer .direction) ≡ true → 0 < waits (s .fifo) → waits (s .fifo) ≤ n
-      → s .status .pending ≡ Ending k
-      → Drains n s (record { code = k; pending = Interrupt; connection = s .wire .connection; running = Idle })
+  drains-wait : {r : Command} → isIncoming (s .transfer .direction) ≡ true → 0 < waits (s .fifo) → waits (s .fifo) ≤ n
+      → s .activity ≡ A.ReadOut r → Drains n s (record { code = s .status .code; activity = A.Runs r; connection = Waiting })
+  drains-ending : {r : Command} {k : ℕ} → isIncoming (s .transfer .direction) ≡ true → 0 < waits (s .fifo) → waits (s .fifo) ≤ n
+      → s .activity ≡ A.Ends r k → Drains n s (record { code = k; activity = A.Interrupt; connection = s .wire .connection })
 
-pops-settled : (s : State) (q : Pending) → s .status .pending ≡ q → isIncoming (s .transfer .direction) ≡ true → waits (s .fifo) ≡ 1
-    → Pops s (settledBy q (setFifo (pop (s .fifo)) s))
+pops-settled : (s : State) (a : Activity) → s .activity ≡ a → isIncoming (s .transfer .direction) ≡ true → waits (s .fifo) ≡ 1
+    → Pops s (settledBy a (setFifo (pop (s .fifo)) s))
 unfolding settledBy
-pops-settled s Nothing e d w = one-read d (waits-some (s .fifo) (omega arith))
-pops-settled s Interrupt e d w = one-read d (waits-some (s .fifo) (omega arith))
-pops-settled s (Ending k) e d w = ending-read d w e
-pops-settled s ReadOut e d w = wait-read d w e
+pops-settled s A.Idle e d w = one-read d (waits-some (s .fifo) (omega arith))
+pops-settled s A.Interrupt e d w = one-read d (waits-some (s .fifo) (omega arith))
+pops-settled s (A.Runs r) e d w = one-read d (waits-some (s .fifo) (omega arith))
+pops-settled s (A.Ends r k) e d w = ending-read d w e
+pops-settled s (A.ReadOut r) e d w = wait-read d w e
 
 pops-in : (s : State) → s .transfer .direction ≡ In → Pops s (dataReadBy In s .state)
 unfolding settled
@@ -345,7 +349,8 @@ drained : {c : Call} {n : ℕ} {s : State} {z : Summary} → isAnswer c ≡ fals
 drained a h drains-nothing = silent (λ q. a)
 drained a h (drains-wait d w v e) = settles (has-read e (h d w v))
 drained a h (drains-ending d w v e) =
-    raises (rw e) (B.reads (record { last = h d w v; ending = e })) (there (λ q. clash refl (ap isEnding (sym e ∙ q))))
+    raises (ap isInterrupt e) (B.reads (record { last = h d w v; ending = ap pendingIn e }))
+    (there (λ q. clash refl (ap isEnd (sym (ap pendingIn e) ∙ q))))
 
 -- the registers
 

@@ -1,4 +1,5 @@
 pub mod Choosing
+pub mod Pendings
 pub mod Telling
 pub mod Host
 pub mod Bus

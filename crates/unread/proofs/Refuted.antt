@@ -1,8 +1,8 @@
 -- Each law refuses a wrong step: `Law wrong → ⊥`. What is wrong is said in specs/Wrong.antt.
 --   callsFilled callsEnding   calls from a fresh controller that lead to a byte that waits, and to an ending with it
---   hasty-refused peeking-refused soft-refused misnames-refused   by UnreadStatusKept
+--   hasty-refused peeking-refused eager-refused soft-refused misnames-refused   by UnreadStatusKept
 --   mumbling-refused                                     by CodeMovesOnlyByRaising
---   hasty-loses peeking-hides mumbling-lies misnames-lies forgetful-stale   by NoStatusLost
+--   hasty-loses peeking-hides eager-loses mumbling-lies misnames-lies forgetful-stale   by NoStatusLost
 --   sluggish-refused hurried-refused                     by RaisedBecause
 --   hurried-ends invents-refused                         by EndingBecause
 --   meddling-refused                                     by EndingsBegun
@@ -16,8 +16,9 @@ use mathlib.Core.List.{List, [], _∷_, _++_}
 use mathlib.Core.Logic.{⊎-elim}
 use Prim.Native.Nat.{ℕ}
 use native.Mathlib.Omega.{arith}
-use Rattle.chip.specs.State.{fresh, setCode, setPending, setPointer, setTimeout, setConnection, setRunning, setDirection, setCount, setFifo}
-use Rattle.chip.specs.Interrupts.{isInterrupt, isEnding, isIncoming}
+use Rattle.chip.specs.State.{fresh, setCode, setActivity, setPointer, setTimeout, setConnection, setDirection, setCount, setFifo}
+use Rattle.chip.specs.Interrupts.{isIncoming}
+use Rattle.chip.specs.Activity.{isEnding, codeToCome}
 use Rattle.chip.specs.Calls.{Call, pointer, auxiliary, register, time, answer, request, free, kind, run, step}
 use Rattle.chip.specs.declared.State.{State}
 use Rattle.chip.specs.declared.Fifo.{Fifo}
@@ -25,9 +26,10 @@ use Rattle.chip.specs.declared.Transfer.{Transfer}
 use Rattle.chip.specs.declared.Answer.{Answer}
 use Rattle.chip.specs.declared.Answer.the-variants.{Done}
 use Rattle.chip.specs.declared.Phase.the-variants.{UnspecifiedOut}
-use Rattle.chip.specs.declared.Pending.the-variants.{Interrupt, Ending}
+use Rattle.chip.specs.declared.Activity.{Activity}
+use Rattle.chip.specs.declared.Activity.the-variants.{Interrupt, Runs}
 use Rattle.chip.specs.declared.Connection.the-variants.{Selecting, Connected}
-use Rattle.chip.specs.declared.Running.the-variants.{SelectWithoutAtn, TransferInfo}
+use Rattle.chip.specs.declared.Command.the-variants.{SelectWithoutAtn, TransferInfo}
 use Rattle.chip.specs.declared.Direction.the-variants.{In}
 use Rattle.chip.proofs.Computing.{everything}
 use Rattle.unread.specs.Status.{isCommand, isReset, isSelection, isDisconnect, isDropped, readsAt, raised}
@@ -39,15 +41,16 @@ use Rattle.unread.specs.Because.{ReadsLast, RaisedBecause, EndingBecause
 use Rattle.unread.specs.Ending.{isDataRead, EndingIsStill, EndingStays}
 use Rattle.unread.specs.Codes.{EndingsBegun, Unanswered, SelectionsBegun, CodesOnlyBy}
 use Rattle.unread.specs.Wrong as W
-use Rattle.unread.specs.Wrong.{hasty, peeking, mumbling, soft, misnames, forgetful, hurried, sluggish, mistaken, meddling, deaf, drops, renames, spills, shrugs, invents, blanks, eats, hollows, shuts}
+use Rattle.unread.specs.Wrong.{hasty, peeking, eager, mumbling, soft, misnames, forgetful, hurried, sluggish, mistaken, meddling, deaf, drops, renames, spills, shrugs, invents, blanks, eats, hollows, shuts}
 use Rattle.unread.proofs.Choosing.{clash}
 use Rattle.unread.proofs.Because.{because-row}
+use Rattle.unread.proofs.Pendings.{isInt, isEnd}
 use Rattle.unread.proofs.Codes.{since-began, since-last, time-ends-nothing}
 use Rattle.chip.specs.Fifo.{empty, push, waits}
 
 -- a status 16h that nobody has read, with the pointer at a
 abbrev unreadAt : ℕ → State
-unreadAt a = setPointer a (setPending Interrupt (setCode 0x16 fresh))
+unreadAt a = setPointer a (setActivity Interrupt (setCode 0x16 fresh))
 
 pub hasty-refused : UnreadStatusKept hasty → ⊥
 unfolding everything hasty W.changed isReset isCommand
@@ -56,6 +59,10 @@ hasty-refused h = let z : _≡_ {A = ℕ} 0x42 0x16 = h .code-kept (time 0) (unr
 pub peeking-refused : UnreadStatusKept peeking → ⊥
 unfolding everything peeking W.changed readsAt
 peeking-refused h = clash (h .int-kept auxiliary (unreadAt 0) refl refl) refl
+
+pub eager-refused : UnreadStatusKept eager → ⊥
+unfolding everything eager W.instead isSelection readsAt
+eager-refused h = clash (h .int-kept (register 1 0x06) (unreadAt 0x18) refl refl) refl
 
 pub soft-refused : UnreadStatusKept soft → ⊥
 unfolding everything soft isReset isCommand
@@ -72,6 +79,9 @@ mumbling-refused h = clash (h .int-with-code free fresh other-code) refl
     other-code : _≡_ {A = ℕ} 0x85 0x00 → ⊥
     other-code z = omega arith
 
+nothing-unread : H.nothing ≡ H.unread → ⊥
+nothing-unread e = let z : _≡_ {A = ℕ} 0 1 = cc in omega arith
+
 pub hasty-loses : NoStatusLost hasty → ⊥
 unfolding everything hasty W.changed isReset isCommand isDisconnect readsAt raised H.history H.noted run
 hasty-loses h = lost (h .orderly (time 0 ∷ []) (unreadAt 0))
@@ -81,10 +91,11 @@ hasty-loses h = lost (h .orderly (time 0 ∷ []) (unreadAt 0))
 
 pub peeking-hides : NoStatusLost peeking → ⊥
 unfolding everything peeking W.changed isReset isCommand isDisconnect readsAt raised H.history H.noted run
-peeking-hides h = let e : H.nothing ≡ H.unread = h .pending-is-owed (auxiliary ∷ []) (unreadAt 0) in absurd-owed e
-  where
-    absurd-owed : H.nothing ≡ H.unread → ⊥
-    absurd-owed e = let z : _≡_ {A = ℕ} 0 1 = cc in omega arith
+peeking-hides h = nothing-unread (h .pending-is-owed (auxiliary ∷ []) (unreadAt 0))
+
+pub eager-loses : NoStatusLost eager → ⊥
+unfolding everything eager W.instead isSelection isReset isCommand isDisconnect readsAt raised H.history H.noted run
+eager-loses h = nothing-unread (h .pending-is-owed (register 1 0x06 ∷ []) (unreadAt 0x18))
 
 pub mumbling-lies : NoStatusLost mumbling → ⊥
 unfolding everything mumbling W.changed isReset isCommand isDisconnect readsAt raised H.history H.noted run
@@ -103,7 +114,7 @@ forgetful-stale h = stale (h .orderly (register 0 0 ∷ []) (unreadAt 0x17))
 
 -- selecting, with a timeout of 1
 abbrev calling : State
-calling = setTimeout 1 (setConnection Selecting (setRunning SelectWithoutAtn fresh))
+calling = setTimeout 1 (setConnection Selecting (setActivity (Runs SelectWithoutAtn) fresh))
 
 pub sluggish-refused : RaisedBecause sluggish → ⊥
 unfolding everything sluggish W.changed isReset isCommand raised
@@ -113,7 +124,7 @@ sluggish-refused h = clash (h .complete (time 1) calling 0x42 (B.times-out refl 
 abbrev filled : State
 filled =
     setConnection Connected
-    (setRunning TransferInfo (setDirection In (setCount 1 (setFifo (push 0 empty) fresh))))
+    (setActivity (Runs TransferInfo) (setDirection In (setCount 1 (setFifo (push 0 empty) fresh))))
 
 pub hurried-refused : RaisedBecause hurried → ⊥
 unfolding everything hurried isReset isCommand raised
@@ -122,7 +133,7 @@ hurried-refused h = clash refl (ap isEnding (because-row (h .sound free filled r
 pub hurried-ends : EndingBecause hurried → ⊥
 unfolding everything hurried
 hurried-ends h =
-    clash refl (ap isInterrupt (h .complete free filled 0x41 (B.brings-unread (B.cuts-info refl refl refl refl) refl)))
+    clash refl (ap isInt (h .complete free filled 0x41 (B.brings-unread (B.cuts-info refl refl refl refl) refl)))
 
 pub meddling-refused : EndingsBegun meddling → ⊥
 unfolding everything meddling W.changed run
@@ -201,10 +212,8 @@ drops-loses h = nothing-coming (h .pending-is-owed (callsEnding ++ (time 1 ∷ [
 
 pub renames-refused : EndingStays renames → ⊥
 unfolding everything renames W.instead isDropped isReset isDisconnect isCommand
-renames-refused h = other-code (h .stays (time 1) held refl refl (no-last 1))
-  where
-    other-code : Ending 0x42 ≡ Ending 0x4C → ⊥
-    other-code e = let z : _≡_ {A = ℕ} 0x42 0x4C = cc in omega arith
+renames-refused h =
+    let z : _≡_ {A = ℕ} 0x42 0x4C = ap (λ (a : Activity). codeToCome a) (h .stays (time 1) held refl refl (no-last 1)) in omega arith
 
 pub renames-lies : NoStatusLost renames → ⊥
 unfolding everything renames W.instead isReset isDisconnect isCommand readsAt raised H.history H.noted run
@@ -227,7 +236,7 @@ no-read-out n h = elim h [ ]
 
 pub invents-refused : EndingBecause invents → ⊥
 unfolding everything invents W.instead
-invents-refused h = ⊎-elim (λ e. clash (ap isEnding e) refl) (no-read-out 1) (h .read-out-sound (time 1) sent refl)
+invents-refused h = ⊎-elim (λ e. clash (ap isEnd e) refl) (no-read-out 1) (h .read-out-sound (time 1) sent refl)
 
 pub blanks-refused : EndingStays blanks → ⊥
 unfolding everything blanks readsAt

@@ -1,7 +1,7 @@
 -- The other rows of the table: commands, Time, Answer, Reselection, and the reads that end a read-out.
 --   aborts-connected-row aborts-row refuses-row resumes-row   commands
 --   taken-command abort-taken kept-free                       .. what is taken, and that no idle controller refuses one as busy
---   times-out-row answers-row reselects-row                   events
+--   selecting-now times-out-row answers-row reselects-row     events
 --   byte-row slice-row                                        reads
 --   no-data no-block                                          reads where no byte waits
 --   data-read data-reachable                                  a read of the Data register where a byte waits; it is never Blind
@@ -21,8 +21,8 @@ use Rattle.chip.specs.Fifo.{isEmpty, front, pop, waits}
 use Rattle.chip.specs.State.{setFifo}
 use Rattle.chip.specs.Answers.{done, noDataNow}
 use Rattle.chip.specs.Count.{dbr, loaded}
-use Rattle.chip.specs.Interrupts.{isInterrupt, isEnding, busy, interrupt, endingWith, raise, outgoingDropped, withoutOutgoing, settled, settledBy, bytesUnread, isIncoming}
-use Rattle.chip.specs.Running.{isRunning, isSelectAndTransfer}
+use Rattle.chip.specs.Interrupts.{busy, interrupt, endingWith, raise, outgoingDropped, withoutOutgoing, settled, settledBy, bytesUnread, isIncoming}
+use Rattle.chip.specs.Activity.{isRunning, goesOn, isSelectAndTransfer}
 use Rattle.chip.specs.SelectAndTransfer.{resumed, isResumable, isEarly, isMiddle, isAtEnd}
 use Rattle.chip.specs.Commands.{isReady, isValid, isRefusedBusy, entryOf, table, aborted, selectAndTransferBegun, carriedOut, accepted, commanded, abortPhase}
 use Rattle.chip.specs.Connections.{isConnected, isWaiting, isSelecting}
@@ -32,17 +32,18 @@ use Rattle.chip.specs.Calls.{Call, Outcome, block, time, answer, reselection, i
 use Rattle.chip.specs.declared.State.{State}
 use Rattle.chip.specs.declared.Fifo.{Fifo}
 use Rattle.chip.specs.declared.Reply.{Reply}
-use Rattle.chip.specs.declared.Running.{Running}
+use Rattle.chip.specs.declared.Command.{Command}
 use Rattle.chip.specs.declared.Connection.the-variants.{Selecting, Connected}
 use Rattle.chip.specs.declared.Direction.{Direction}
 use Rattle.chip.specs.declared.Direction.the-variants.{Unfixed, In, Out}
-use Rattle.chip.specs.declared.Pending.{Pending}
-use Rattle.chip.specs.declared.Pending.the-variants.{Nothing, Interrupt, Ending, ReadOut}
-use Rattle.unread.specs.Status.{isCommand, readsAt}
+use Rattle.chip.specs.declared.Activity.{Activity}
+use Rattle.chip.specs.declared.Activity.the-variants as A
+use Rattle.unread.specs.Status.{Ending, pendingIn, pending, isCommand, readsAt}
 use Rattle.unread.specs.Because.{Quiet, ReadsLast, byte, slice}
 use Rattle.chip.proofs.Cases.{by-test, taken, passed-over}
 use Rattle.unread.proofs.Choosing.{clash, second-fails, one-of}
 use Rattle.unread.proofs.Telling.{summary}
+use Rattle.unread.proofs.Pendings.{isEnd, int-by, end-by, going-quiet}
 use Rattle.chip.proofs.FifoLaws.{some-waits, waits-some, pop-less}
 use Rattle.unread.proofs.Told.{good-step, Issued, issued, Reading, reading}
 use Rattle.unread.proofs.Asked.{seen, shown, Raised, Load, load, Ended, raised-by, ended-by, open-event}
@@ -72,12 +73,12 @@ module _ (c : Call) (s : State) (q : Quiet s) where
       → commanded b s .state ≡ carriedOut (codeOf b) (isSingle b) (accepted b s)
   unfolding commanded
   taken-command b n r v =
-      ap (λ (x : Reply). x .state) (passed-over _ _ n ∙ passed-over _ _ (ap isInterrupt q) ∙ passed-over _ _ r ∙ taken _ _ v)
+      ap (λ (x : Reply). x .state) (passed-over _ _ n ∙ passed-over _ _ (int-by s q) ∙ passed-over _ _ r ∙ taken _ _ v)
 
-  module _ (runs : isRunning (s .transfer .running) ≡ true) where
+  module _ (on : goesOn (s .activity) ≡ true) where
     abort-valid : isValid 0x01 s ≡ true
-    unfolding isValid isReady entryOf table busy both either pick
-    abort-valid = rw (runs, q)
+    unfolding isValid isReady entryOf table both pick
+    abort-valid = on
 
     abort-kept : isRefusedBusy 0x01 s ≡ false
     unfolding isRefusedBusy entryOf table either
@@ -93,7 +94,7 @@ module _ (c : Call) (s : State) (q : Quiet s) where
     aborts-connected-row e x =
         let h : Issued 0x01 c s = issued 0x01 c s e in
         stepped-ended c s 0x18 _ (h .leaves)
-        (ended-by _ (ap seen (abort-taken (h .byte) (h .code) ∙ taken _ _ (ap isConnected x))) refl)
+        (ended-by _ (ap seen (abort-taken (h .byte) (h .code) ∙ taken _ _ (ap isConnected x))) refl (λ w. on))
 
     pub aborts-row : isCommand 0x01 c s ≡ true → isConnected (s .wire .connection) ≡ false → Raised 0x22 (step c s .state)
     unfolding aborted accepted
@@ -102,10 +103,10 @@ module _ (c : Call) (s : State) (q : Quiet s) where
         stepped-raised c s 0x18 _ (h .leaves)
         (raised-by _ (ap seen (abort-taken (h .byte) (h .code) ∙ passed-over _ _ x)))
 
-  module _ (idle : isRunning (s .transfer .running) ≡ false) where
+  module _ (idle : isRunning (s .activity) ≡ false) where
     is-free : busy s ≡ false
-    unfolding busy either
-    is-free = rw (idle, q)
+    unfolding busy
+    is-free = idle
 
     pub kept-free : (k : ℕ) → isRefusedBusy k s ≡ false
     unfolding isRefusedBusy both
@@ -116,7 +117,7 @@ module _ (c : Call) (s : State) (q : Quiet s) where
     unfolding commanded
     refused-command b n v =
         ap (λ (x : Reply). x .state)
-        (passed-over _ _ n ∙ passed-over _ _ (ap isInterrupt q) ∙ passed-over _ _ (kept-free _) ∙ passed-over _ _ v)
+        (passed-over _ _ n ∙ passed-over _ _ (int-by s q) ∙ passed-over _ _ (kept-free _) ∙ passed-over _ _ v)
 
     pub refuses-row : (k : ℕ) → isCommand k c s ≡ true → eqb k 0x00 ≡ false → isValid k s ≡ false → Raised 0x40 (step c s .state)
     refuses-row k e n v =
@@ -133,9 +134,9 @@ module _ (c : Call) (s : State) (q : Quiet s) where
       unfolding isValid isReady entryOf table both either pick
       resume-valid k w = one-of (λ (j : ℕ). isValid j s ≡ true) 0x08 0x09 k w (rw (resumable, x)) (rw (resumable, x))
 
-      resume-raises : (r : Running) (b : ℕ) → Ended 0x16 false (load (loaded s)) (selectAndTransferBegun r (accepted b s))
+      resume-raises : (r : Command) (b : ℕ) → Ended 0x16 false (load (loaded s)) (selectAndTransferBegun r (accepted b s))
       unfolding selectAndTransferBegun resumed loaded accepted bytesUnread both
-      resume-raises r b = ended-by _ (ap seen (taken _ _ (ap isConnected x) ∙ taken _ _ (eq-eqb _ _ p))) refl
+      resume-raises r b = ended-by _ (ap seen (taken _ _ (ap isConnected x) ∙ taken _ _ (eq-eqb _ _ p))) refl (λ w. refl)
 
       -- what 08 and 09 do
       resume-carried : (k b : ℕ) → either (eqb k 0x08) (eqb k 0x09) ≡ true → Ended 0x16 false (load (loaded s)) (carriedOut k (isSingle b) (accepted b s))
@@ -153,25 +154,29 @@ module _ (c : Call) (s : State) (q : Quiet s) where
 
 -- events
 
-pub times-out-row : (n : ℕ) (s : State) → isGood (time n) ≡ true → Quiet s → s .wire .connection ≡ Selecting
+-- a selection runs
+pub selecting-now : (s : State) → goesOn (s .activity) ≡ true → s .wire .connection ≡ Selecting → E.selects s ≡ true
+unfolding E.selects both
+selecting-now s on x = rw (on, x)
+
+pub times-out-row : (n : ℕ) (s : State) → isGood (time n) ≡ true → goesOn (s .activity) ≡ true → s .wire .connection ≡ Selecting
     → eqb (s .registers .setup .timeout) 0 ≡ false → leb (s .registers .setup .timeout) (s .wire .elapsed + n) ≡ true
     → Raised 0x42 (step (time n) s .state)
 unfolding carried E.passed E.selectionTime E.timedOut
-times-out-row n s g q x t l =
+times-out-row n s g on x t l =
     raised-by _
     (ap (λ (o : Outcome). seen (o .state)) (good-step (time n) s g)
     ∙ ap shown
-    (passed-over _ _ (ap isEnding q) ∙ taken _ _ (ap isSelecting x) ∙ passed-over _ _ (ap isInterrupt q) ∙ passed-over _ _ t
-    ∙ taken _ _ l))
+    (taken _ _ (selecting-now s on x) ∙ passed-over _ _ t ∙ taken _ _ l))
 
-pub answers-row : (s : State) → Quiet s → s .wire .connection ≡ Selecting → isSelectAndTransfer (s .transfer .running) ≡ false
+pub answers-row : (s : State) → goesOn (s .activity) ≡ true → s .wire .connection ≡ Selecting → isSelectAndTransfer (s .activity) ≡ false
     → Raised 0x11 (step answer s .state)
 unfolding carried E.answered E.answeredSelecting
-answers-row s q x t =
+answers-row s on x t =
     raised-by _
     (ap (λ (o : Outcome). seen (o .state)) (good-step answer s (unfold isGood in refl))
     ∙ ap shown
-    (taken _ _ (ap isSelecting x) ∙ passed-over _ _ (ap isEnding q) ∙ passed-over _ _ t ∙ open-event s _ q))
+    (taken _ _ (selecting-now s on x) ∙ passed-over _ _ t))
 
 pub reselects-row : (lines : ℕ) (s : State) → isGood (reselection lines) ≡ true → Quiet s → qualifies lines s ≡ true
     → isConnected (s .wire .connection) ≡ false → both (isWaiting (s .wire .connection)) (E.namesTarget lines s) ≡ false
@@ -180,7 +185,7 @@ unfolding carried E.reselected E.reselectedWithCode E.reselectedApart
 reselects-row lines s g q f x w =
     raised-by _
     (ap (λ (o : Outcome). seen (o .state)) (good-step (reselection lines) s g)
-    ∙ ap shown (taken _ _ f ∙ passed-over _ _ x ∙ passed-over _ _ (ap isEnding q) ∙ passed-over _ _ w ∙ open-event s _ q))
+    ∙ ap shown (taken _ _ f ∙ passed-over _ _ x ∙ passed-over _ _ (end-by s q) ∙ passed-over _ _ w ∙ open-event s _ q))
 
 -- reads
 
@@ -217,21 +222,22 @@ no-block [] s e = refl
 no-block (x ∷ l) s e = rw (no-data s e)
 
 -- what an ending comes to keeps an empty FIFO empty
-settled-empty : (q : Pending) (s : State) → isEmpty (s .fifo) ≡ true → isEmpty (settledBy q s .fifo) ≡ true
+settled-empty : (a : Activity) (s : State) → isEmpty (s .fifo) ≡ true → isEmpty (settledBy a s .fifo) ≡ true
 unfolding settledBy raise outgoingDropped isEmpty
-settled-empty Nothing s e = e
-settled-empty Interrupt s e = e
-settled-empty (Ending k) s e = by-way (s .transfer .direction)
+settled-empty A.Idle s e = e
+settled-empty A.Interrupt s e = e
+settled-empty (A.Runs r) s e = e
+settled-empty (A.Ends r k) s e = by-way (s .transfer .direction)
   where
     by-way : (d : Direction) → isEmpty (withoutOutgoing d (s .fifo)) ≡ true
     by-way Unfixed = e
     by-way In = e
     by-way Out = refl
-settled-empty ReadOut s e = e
+settled-empty (A.ReadOut r) s e = e
 
 -- the incoming bytes are read to the last, which leads from s to t: what is pending settles
 data Emptied (s t : State) : Type 0 where
-  emptied : (q : Fifo) → isEmpty q ≡ true → t ≡ settledBy (s .status .pending) (setFifo q s) → Emptied s t
+  emptied : (q : Fifo) → isEmpty q ≡ true → t ≡ settledBy (s .activity) (setFifo q s) → Emptied s t
 
 more-settles : (s : State) → isEmpty (pop (s .fifo)) ≡ false → settled (setFifo (pop (s .fifo)) s) ≡ setFifo (pop (s .fifo)) s
 unfolding settled
@@ -244,7 +250,7 @@ unfolding settled
 last-empties l s z =
     emptied (pop (s .fifo)) z
     (ap (λ (r : State). R.blockRead l r .state) (taken _ _ z)
-    ∙ no-block l (settledBy (s .status .pending) (setFifo (pop (s .fifo)) s)) (settled-empty (s .status .pending) _ z))
+    ∙ no-block l (settledBy (s .activity) (setFifo (pop (s .fifo)) s)) (settled-empty (s .activity) _ z))
 
 earlier-empties : {s t : State} {q : Fifo} → Emptied (setFifo q s) t → Emptied s t
 earlier-empties (emptied q e f) = emptied q e f
@@ -261,16 +267,27 @@ block-empties (x ∷ l) s d v u =
     (block-empties l (setFifo (pop (s .fifo)) s) d (some-waits _ z) (omega (arith, pop-less (s .fifo) (waits-some (s .fifo) v)))))))
 
 -- .. of an ending with k
-emptied-ends : {k : ℕ} {s t : State} → Emptied s t → s .status .pending ≡ Ending k → Ended k false (load s) t
-unfolding settledBy endingWith bytesUnread
+ends-raises : {k : ℕ} (a : Activity) (u : State) → pendingIn a ≡ Ending k → settledBy a u ≡ raise k u
+unfolding settledBy
+ends-raises A.Idle u p = clash refl (ap isEnd (sym p))
+ends-raises A.Interrupt u p = clash refl (ap isEnd (sym p))
+ends-raises (A.Runs r) u p = clash refl (ap isEnd (sym p))
+ends-raises {k} (A.Ends r j) u p = ap (λ (n : ℕ). raise n u) (same p)
+  where
+    same : Ending j ≡ Ending k → j ≡ k
+    same e = cc
+ends-raises (A.ReadOut r) u p = cc
+
+emptied-ends : {k : ℕ} {s t : State} → Emptied s t → pending s ≡ Ending k → Ended k false (load s) t
+unfolding endingWith bytesUnread
 emptied-ends {k} {s} (emptied q e l) p =
     let u : State = setFifo q s in
     let f : bytesUnread u ≡ false = second-fails _ _ (rw e) in
-    let h = ended-by u (ap seen (l ∙ ap (λ (x : Pending). settledBy x u) p ∙ sym (passed-over _ _ f))) f in
+    let h = ended-by u (ap seen (l ∙ ends-raises (s .activity) u p ∙ sym (passed-over _ _ f))) f (λ z. clash z refl) in
     record { raised-now = h .raised-now; all-read = h .all-read; read-first = h .read-first; kept = λ z. clash z refl }
 
 pub slice-row : (m : ℕ) (l : List ℕ) (s : State) (k : ℕ) → isGood (block m l) ≡ true → isSet m ≡ false
-    → isIncoming (s .transfer .direction) ≡ true → 0 < waits (s .fifo) → waits (s .fifo) ≤ length l → s .status .pending ≡ Ending k
+    → isIncoming (s .transfer .direction) ≡ true → 0 < waits (s .fifo) → waits (s .fifo) ≤ length l → pending s ≡ Ending k
     → Ended k false (load s) (step (block m l) s .state)
 unfolding carried
 slice-row m l s k g f d v u p =
@@ -288,17 +305,17 @@ unfolding R.accessedAt R.isBlind R.readAt both either pick
 data-reachable b s = by-test (busy s) (λ e. rw e) (λ e. rw e)
 
 pub byte-row : (c : Call) (s : State) (k : ℕ) → readsAt 0x19 c s ≡ true → isIncoming (s .transfer .direction) ≡ true
-    → waits (s .fifo) ≡ 1 → s .status .pending ≡ Ending k → Ended k false (load s) (step c s .state)
+    → waits (s .fifo) ≡ 1 → pending s ≡ Ending k → Ended k false (load s) (step c s .state)
 byte-row c s k e d w p =
     let h : Reading 0x19 c s = reading 0x19 c s e in
     stepped-ended c s 0x19 _ (h .gives) (rw (data-reachable (h .byte) s) (emptied-ends (data-empties s d w) p))
 
 -- the read of the last byte, in the words of what stands then
-emptied-stands : {s t : State} → Emptied s t → (q : Fifo) × (summary t ≡ summary (settledBy (s .status .pending) (setFifo q s)))
+emptied-stands : {s t : State} → Emptied s t → (q : Fifo) × (summary t ≡ summary (settledBy (s .activity) (setFifo q s)))
 emptied-stands (emptied q e l) = (q, ap summary l)
 
 pub last-stands : {c : Call} {s : State} → ReadsLast c s
-    → (q : Fifo) × (summary (step c s .state) ≡ summary (settledBy (s .status .pending) (setFifo q s)))
+    → (q : Fifo) × (summary (step c s .state) ≡ summary (settledBy (s .activity) (setFifo q s)))
 unfolding R.stepped carried
 last-stands (byte {c} {s} e d w) =
     let h : Reading 0x19 c s = reading 0x19 c s e in
@@ -309,7 +326,7 @@ last-stands (slice {m} {l} {s} g f d v u) =
 -- .. and no byte is unread
 emptied-unread : {s t : State} → Emptied s t → bytesUnread t ≡ false
 unfolding bytesUnread
-emptied-unread {s} (emptied q e l) = second-fails _ _ (rw (l, settled-empty (s .status .pending) (setFifo q s) e))
+emptied-unread {s} (emptied q e l) = second-fails _ _ (rw (l, settled-empty (s .activity) (setFifo q s) e))
 
 pub last-unread : {c : Call} {s : State} → ReadsLast c s → bytesUnread (step c s .state) ≡ false
 unfolding R.stepped carried bytesUnread

@@ -16,7 +16,8 @@ use lib.Dec.{eqb}
 use borrow.Author.Tests.{eqb-true, not-true}
 use Rattle.chip.specs.Choice.{pick, both, either}
 use Rattle.chip.specs.Lines.{codeOf}
-use Rattle.chip.specs.Interrupts.{interrupted, busy, withoutInterrupt}
+use Rattle.chip.specs.Interrupts.{interrupted, busy}
+use Rattle.chip.specs.Activity.{withoutInterrupt}
 use Rattle.chip.specs.Commands.{isReady, isValid, entryOf, table, isRefusedBusy, accepted, disconnected, carriedOut, commanded, reset, resetCode}
 use Rattle.chip.specs.Connections.{isConnected}
 use Rattle.chip.specs.Answers.{done}
@@ -25,7 +26,7 @@ use Rattle.chip.specs.Calls.{Call, Outcome, pointer, auxiliary, register, block
 use Rattle.chip.specs.declared.State.{State}
 use Rattle.chip.specs.declared.Reply.{Reply}
 use Rattle.chip.specs.declared.Answer.the-variants.{Done, Blind}
-use Rattle.chip.specs.declared.Pending.the-variants.{Nothing, Interrupt}
+use Rattle.chip.specs.declared.Activity.the-variants.{Idle, Interrupt}
 use Rattle.unread.specs.Status.{isCommand, isReset, isDisconnect, isAnswer, readsAt}
 use Rattle.chip.proofs.Cases.{by-pick, by-case, by-test, both-first, both-second}
 use Rattle.unread.proofs.Choosing.{clash, not-first}
@@ -107,7 +108,7 @@ issued k (request p b q) s e = clash e refl
 issued k free s e = clash e refl
 
 pub reset-told : (c : Call) (s : State) → isReset c s ≡ true
-    → (step c s .state .status .code ≡ resetCode s) × (step c s .state .status .pending ≡ Interrupt)
+    → (step c s .state .status .code ≡ resetCode s) × (step c s .state .activity ≡ Interrupt)
 unfolding isReset commanded reset R.stepped pick
 reset-told c s e =
     let h : Issued 0x00 c s = issued 0x00 c s e in
@@ -135,9 +136,9 @@ reading a free s e = clash e refl
 
 pub data ReadTold (s : State) : Outcome → Type 0 where
   blind : {o : Outcome} → busy s ≡ true → o .answer ≡ Blind → o .state .status .code ≡ s .status .code
-      → o .state .status .pending ≡ s .status .pending → ReadTold s o
+      → o .state .activity ≡ s .activity → ReadTold s o
   read : {o : Outcome} → busy s ≡ false → o .answer ≡ Done (s .status .code) → o .state .status .code ≡ s .status .code
-      → o .state .status .pending ≡ withoutInterrupt (s .status .pending) → ReadTold s o
+      → o .state .activity ≡ withoutInterrupt (s .activity) → ReadTold s o
 
 readable : (b : ℕ) (s : State) → busy s ≡ false
     → ReadTold s (plain (R.stepped 0x17 (pick false (R.writtenAt 0x17 b s) (R.readAt 0x17 s))))
@@ -167,7 +168,7 @@ unfolding commanded carriedOut isRefusedBusy isValid isReady entryOf table both 
 disconnect-gives b s k i x = by-test (busy s) (λ e. rw (k, i, x, e)) (λ e. rw (k, i, x, e))
 
 pub disconnect-told : (c : Call) (s : State) → isDisconnect c s ≡ true → interrupted s ≡ false
-    → (step c s .state .status .code ≡ s .status .code) × (step c s .state .status .pending ≡ Nothing)
+    → (step c s .state .status .code ≡ s .status .code) × (step c s .state .activity ≡ Idle)
 unfolding isDisconnect disconnected accepted R.stepped
 disconnect-told c s e i =
     let h : Issued 0x04 c s = issued 0x04 c s (both-first _ _ e) in

@@ -1,52 +1,54 @@
 -- The laws of specs/Unread.antt hold of the step.
 --   unread-status-kept           a status nobody has read is replaced only by Reset
 --   code-moves-only-by-raising   the code at 17h changes only by raising
---   int-pending                  INT, in the words of what is pending
+--   int-pending                  INT, in the words of the activity
 --   raised-anew raised-reset   two grounds on which a call raised a code
 --   raised-from-quiet raised-sets-int   what a call that raised a code found, and left
-use mathlib.Core.Path.{_≡_, refl, ap}
+use mathlib.Core.Path.{_≡_, refl, sym, ap, _∙_}
 use mathlib.Core.Logic.{_↔_}
 use mathlib.Core.Bool.{true, false}
 use lib.Dec.{eqb}
 use borrow.Author.Tests.{eq-eqb}
 use Rattle.chip.specs.Choice.{both, either}
-use Rattle.chip.specs.Interrupts.{interrupted, isInterrupt}
+use Rattle.chip.specs.Interrupts.{interrupted}
+use Rattle.chip.specs.Activity.{isInterrupt}
 use Rattle.chip.specs.Calls.{Call, step}
 use Rattle.chip.specs.declared.State.{State}
-use Rattle.chip.specs.declared.Pending.{Pending}
-use Rattle.chip.specs.declared.Pending.the-variants.{Nothing, Interrupt, Ending, ReadOut}
+use Rattle.chip.specs.declared.Activity.{Activity}
+use Rattle.chip.specs.declared.Activity.the-variants.{Idle, Interrupt, Runs, Ends, ReadOut}
 use Rattle.unread.specs.Status.{isReset, readsAt, raised}
 use Rattle.unread.specs.Unread.{UnreadStatusKept, CodeMovesOnlyByRaising}
 use Rattle.chip.proofs.Cases.{by-test, both-first, both-second}
 use Rattle.unread.proofs.Choosing.{clash}
+use Rattle.unread.proofs.Pendings.{isInt, int-is, int-by}
 use Rattle.unread.proofs.Telling.{settles-quiet, Summary, Tells, silent, moves, selects, settles, begins, raises, reads, resets}
 use Rattle.unread.proofs.Told.{told, reset-told}
 
 module _ {c : Call} {s : State} where
   code-stays : {z : Summary} → Tells c s z → interrupted s ≡ true → isReset c s ≡ false → z .code ≡ s .status .code
   code-stays (silent a) i r = refl
-  code-stays (moves x) i r = refl
-  code-stays (selects e q x b n) i r = refl
+  code-stays (moves x p) i r = refl
+  code-stays (selects e q x b) i r = refl
   code-stays (settles h) i r = refl
   code-stays (begins u h x) i r = refl
   code-stays (raises j h x) i r = clash i j
   code-stays (reads e a) i r = refl
   code-stays (resets e x) i r = clash e r
 
-  int-stays : {z : Summary} → Tells c s z → interrupted s ≡ true → readsAt 0x17 c s ≡ false → isInterrupt (z .pending) ≡ true
+  int-stays : {z : Summary} → Tells c s z → interrupted s ≡ true → readsAt 0x17 c s ≡ false → isInterrupt (z .activity) ≡ true
   int-stays (silent a) i r = i
-  int-stays (moves x) i r = i
-  int-stays (selects e q x b n) i r = i
+  int-stays (moves {a = a} x p) i r = int-is a ∙ ap isInt p ∙ sym (int-is (s .activity)) ∙ i
+  int-stays (selects e q x b) i r = clash i (int-by s q)
   int-stays (settles h) i r = clash i (settles-quiet h)
-  int-stays (begins u h x) i r = clash i (rw u)
+  int-stays (begins u h x) i r = clash i (int-by s u)
   int-stays (raises j h x) i r = refl
   int-stays (reads e a) i r = clash e r
   int-stays (resets e x) i r = refl
 
-  int-with : {z : Summary} → Tells c s z → (z .code ≡ s .status .code → ⊥) → isInterrupt (z .pending) ≡ true
+  int-with : {z : Summary} → Tells c s z → (z .code ≡ s .status .code → ⊥) → isInterrupt (z .activity) ≡ true
   int-with (silent a) n = absurd (n refl)
-  int-with (moves x) n = absurd (n refl)
-  int-with (selects e q x b m) n = absurd (n refl)
+  int-with (moves x p) n = absurd (n refl)
+  int-with (selects e q x b) n = absurd (n refl)
   int-with (settles h) n = absurd (n refl)
   int-with (begins u h x) n = absurd (n refl)
   int-with (raises j h x) n = refl
@@ -65,15 +67,16 @@ module _ (c : Call) (s t : State) (i : interrupted t ≡ true) where
       (λ j. by-test (eqb (t .status .code) (s .status .code)) (λ k. rw (i, j, k, r)) (λ k. rw (i, j, k)))
       (λ j. rw (i, j))
 
--- INT is one of the cases of what is pending
-pub int-pending : (s : State) → (interrupted s ≡ true) ↔ (s .status .pending ≡ Interrupt)
-int-pending s = (by-case (s .status .pending), ap isInterrupt)
+-- INT is one of the activities
+pub int-pending : (s : State) → (interrupted s ≡ true) ↔ (s .activity ≡ Interrupt)
+int-pending s = (by-case (s .activity), ap isInterrupt)
   where
-    by-case : (q : Pending) → isInterrupt q ≡ true → q ≡ Interrupt
-    by-case Nothing e = clash e refl
+    by-case : (a : Activity) → isInterrupt a ≡ true → a ≡ Interrupt
+    by-case Idle e = clash e refl
     by-case Interrupt e = refl
-    by-case (Ending k) e = clash e refl
-    by-case ReadOut e = clash e refl
+    by-case (Runs r) e = clash e refl
+    by-case (Ends r k) e = clash e refl
+    by-case (ReadOut r) e = clash e refl
 
 pub unread-status-kept : UnreadStatusKept step
 unread-status-kept =

@@ -8,7 +8,7 @@
 --   RaisedBecause f      the table is sound and complete for the step f
 --   EndingBecause f      an ending with k begins exactly where the table says so, and the read-out exactly where BeginsReadOut does
 --   Quiet s              nothing is pending in s: no INT and no ending
---   isIdle r             no command that Requests are for: none runs, or one that only selects
+--   isIdle a             no command that Requests are for: none runs, or one that only selects
 --   Offered n b m p s    the Request n b m, of phase p, comes to the running command
 --   LastMessage n b m s  .. is the last Message In byte of a Transfer Info
 --   expects g p b s      at the stage g a Request of phase p with the byte b is expected (expectsBody, expectsLate: two stages of it)
@@ -30,7 +30,7 @@ use Rattle.chip.specs.Lines.{hsp, idi, identify, lunOf, qualifies}
 use Rattle.chip.specs.Fifo.{waits, hasRoom}
 use Rattle.chip.specs.Count.{noneLeft, isLast}
 use Rattle.chip.specs.Interrupts.{isIncoming, isOutgoing, bytesUnread}
-use Rattle.chip.specs.Running.{isRunning, isSelectAndTransfer, isTransferInfo}
+use Rattle.chip.specs.Activity.{isRunning, goesOn, isSelectAndTransfer, isTransferInfo}
 use Rattle.chip.specs.SelectAndTransfer.{stage}
 use Rattle.chip.specs.Commands.{isValid, abortPhase, resetCode}
 use Rattle.chip.specs.Connections.{isConnected, isWaiting}
@@ -39,21 +39,19 @@ use Rattle.chip.specs.Calls.{Call, Outcome, block, time, answer, reselection, r
 use Rattle.chip.specs.declared.State.{State}
 use Rattle.chip.specs.declared.Stage.{Stage}
 use Rattle.chip.specs.declared.Stage.the-variants.{SendIdentify, SendCommand, Body, AfterData, Disconnecting, Reselected, AfterStatus, Elsewhere}
-use Rattle.chip.specs.declared.Running.{Running}
-use Rattle.chip.specs.declared.Running.the-variants.{TransferInfo}
-use Rattle.chip.specs.declared.Pending.the-variants.{Nothing, Ending, ReadOut}
+use Rattle.chip.specs.declared.Activity.{Activity}
 use Rattle.chip.specs.declared.Connection.the-variants.{Selecting, Connected}
 use Rattle.chip.specs.declared.Phase.{Phase}
 use Rattle.chip.specs.declared.Phase.the-variants.{DataOut, DataIn, CommandOut, StatusIn, UnspecifiedOut, UnspecifiedIn, MessageOut, MessageIn}
-use Rattle.unread.specs.Status.{isCommand, isReset, readsAt, raised}
+use Rattle.unread.specs.Status.{Nothing, Ending, ReadOut, pending, isCommand, isReset, readsAt, raised}
 
 -- the words of the table
 
 abbrev pub Quiet : State → Type 0
-Quiet s = s .status .pending ≡ Nothing
+Quiet s = pending s ≡ Nothing
 
-abbrev pub isIdle : Running → Bool
-isIdle r = not (isSelectAndTransfer r || isTransferInfo r)
+abbrev pub isIdle : Activity → Bool
+isIdle a = not (isSelectAndTransfer a || isTransferInfo a)
 
 pub record Offered (n b m : ℕ) (p : Phase) (s : State) : Type 0 where
   pub good : isGood (request n b m) ≡ true
@@ -96,18 +94,18 @@ expects Elsewhere p b s = false
 
 unfoldable pub wants : Phase → ℕ → State → Bool
 wants p b s =
-    pick (isSelectAndTransfer (s .transfer .running)) (expects (stage s) p b s)
+    pick (isSelectAndTransfer (s .activity)) (expects (stage s) p b s)
     (both (isNoted p (s .wire .seen .reported)) (not (noneLeft s)))
 
 -- only the data of a Select-And-Transfer goes into the FIFO, and every byte of a Transfer Info
 unfoldable pub fits : Phase → State → Bool
-fits p s = either (both (isSelectAndTransfer (s .transfer .running)) (not (samePhase p DataIn))) (hasRoom (s .fifo))
+fits p s = either (both (isSelectAndTransfer (s .activity)) (not (samePhase p DataIn))) (hasRoom (s .fifo))
 
 unfoldable pub halts : ℕ → State → Bool
 halts m s = both (isSet m) (hsp s)
 
 unfoldable pub isSpent : State → Bool
-isSpent s = both (not (isSelectAndTransfer (s .transfer .running))) (noneLeft s)
+isSpent s = both (not (isSelectAndTransfer (s .activity))) (noneLeft s)
 
 abbrev pub isBeforeStatus : Stage → Bool
 isBeforeStatus SendIdentify = false
@@ -121,7 +119,7 @@ isBeforeStatus Elsewhere = false
 
 pub record LastMessage (n b m : ℕ) (s : State) : Type 0 where
   pub offered : Offered n b m MessageIn s
-  pub runs : s .transfer .running ≡ TransferInfo
+  pub runs : isTransferInfo (s .activity) ≡ true
   pub wanted : wants MessageIn b s ≡ true
   pub last : isLast s ≡ true
   pub room : hasRoom (s .fifo) ≡ true
@@ -131,32 +129,32 @@ pub record LastMessage (n b m : ℕ) (s : State) : Type 0 where
 
 pub data Brings : Call → State → ℕ → Type 0 where
   -- 16h: Select-And-Transfer, Message In 00 after the status
-  completes : {n b m : ℕ} {s : State} → Offered n b m MessageIn s → isSelectAndTransfer (s .transfer .running) ≡ true
+  completes : {n b m : ℕ} {s : State} → Offered n b m MessageIn s → isSelectAndTransfer (s .activity) ≡ true
       → stage s ≡ AfterStatus → eqb b 0x00 ≡ true → halts m s ≡ false → Brings (request n b m) s 0x16
   -- 18h+p: Transfer Info, a Request with no byte left
-  overruns : {n b m : ℕ} {p : Phase} {s : State} → Offered n b m p s → isIdle (s .transfer .running) ≡ false
+  overruns : {n b m : ℕ} {p : Phase} {s : State} → Offered n b m p s → isIdle (s .activity) ≡ false
       → isSpent s ≡ true → Brings (request n b m) s (0x18 + phaseNumber p)
   -- 21h: Select-And-Transfer, Message In 02 before the status
-  saves : {n b m : ℕ} {s : State} → Offered n b m MessageIn s → isSelectAndTransfer (s .transfer .running) ≡ true
+  saves : {n b m : ℕ} {s : State} → Offered n b m MessageIn s → isSelectAndTransfer (s .activity) ≡ true
       → isBeforeStatus (stage s) ≡ true → eqb b 0x02 ≡ true → halts m s ≡ false → Brings (request n b m) s 0x21
   -- 28h+p: Abort, connected
-  aborts-connected : {c : Call} {s : State} → isCommand 0x01 c s ≡ true → Quiet s → isRunning (s .transfer .running) ≡ true
+  aborts-connected : {c : Call} {s : State} → isCommand 0x01 c s ≡ true → goesOn (s .activity) ≡ true
       → s .wire .connection ≡ Connected → Brings c s (0x28 + phaseNumber (abortPhase (s .wire .seen .last)))
   -- 41h: Free, bytes left in a Transfer Info; in a Select-And-Transfer elsewhere than at 42h
-  cuts-info : {s : State} → Quiet s → s .wire .connection ≡ Connected → s .transfer .running ≡ TransferInfo
+  cuts-info : {s : State} → Quiet s → s .wire .connection ≡ Connected → isTransferInfo (s .activity) ≡ true
       → noneLeft s ≡ false → Brings free s 0x41
-  cuts-transfer : {s : State} → Quiet s → s .wire .connection ≡ Connected → isSelectAndTransfer (s .transfer .running) ≡ true
+  cuts-transfer : {s : State} → Quiet s → s .wire .connection ≡ Connected → isSelectAndTransfer (s .activity) ≡ true
       → eqb (s .registers .descriptor .phase) 0x42 ≡ false → Brings free s 0x41
   -- 43h: a byte of bad parity with HSP, where it would be taken in
-  spoils : {n b m : ℕ} {p : Phase} {s : State} → Offered n b m p s → isIdle (s .transfer .running) ≡ false
+  spoils : {n b m : ℕ} {p : Phase} {s : State} → Offered n b m p s → isIdle (s .activity) ≡ false
       → wants p b s ≡ true → comesIn p ≡ true → fits p s ≡ true → halts m s ≡ true → Brings (request n b m) s 0x43
   -- 48h+p: a Request that the running command does not want
-  surprises : {n b m : ℕ} {p : Phase} {s : State} → Offered n b m p s → isIdle (s .transfer .running) ≡ false
+  surprises : {n b m : ℕ} {p : Phase} {s : State} → Offered n b m p s → isIdle (s .activity) ≡ false
       → wants p b s ≡ false → isSpent s ≡ false → Brings (request n b m) s (0x48 + phaseNumber p)
   -- 85h: Free, no byte left in a Transfer Info; in a Select-And-Transfer at 42h with IDI
-  leaves-info : {s : State} → Quiet s → s .wire .connection ≡ Connected → s .transfer .running ≡ TransferInfo
+  leaves-info : {s : State} → Quiet s → s .wire .connection ≡ Connected → isTransferInfo (s .activity) ≡ true
       → noneLeft s ≡ true → Brings free s 0x85
-  leaves-transfer : {s : State} → Quiet s → s .wire .connection ≡ Connected → isSelectAndTransfer (s .transfer .running) ≡ true
+  leaves-transfer : {s : State} → Quiet s → s .wire .connection ≡ Connected → isSelectAndTransfer (s .activity) ≡ true
       → eqb (s .registers .descriptor .phase) 0x42 ≡ true → idi s ≡ true → Brings free s 0x85
 
 pub data Begins : Call → State → ℕ → Type 0 where
@@ -166,7 +164,7 @@ pub data Begins : Call → State → ℕ → Type 0 where
       → Begins (request n b m) s 0x20
 
 pub data BeginsReadOut : Call → State → Type 0 where
-  leaves-unread : {s : State} → Quiet s → s .wire .connection ≡ Connected → isSelectAndTransfer (s .transfer .running) ≡ true
+  leaves-unread : {s : State} → Quiet s → s .wire .connection ≡ Connected → isSelectAndTransfer (s .activity) ≡ true
       → eqb (s .registers .descriptor .phase) 0x42 ≡ true → idi s ≡ false → bytesUnread s ≡ true → BeginsReadOut free s
 
 pub data ReadsLast : Call → State → Type 0 where
@@ -177,7 +175,7 @@ pub data ReadsLast : Call → State → Type 0 where
 
 pub record ReadsOut (c : Call) (s : State) (k : ℕ) : Type 0 where
   pub last : ReadsLast c s
-  pub ending : s .status .pending ≡ Ending k
+  pub ending : pending s ≡ Ending k
 
 pub data Because : Call → State → ℕ → Type 0 where
   brings : {c : Call} {s : State} {k : ℕ} → Brings c s k → bytesUnread s ≡ false → Because c s k
@@ -186,23 +184,23 @@ pub data Because : Call → State → ℕ → Type 0 where
   -- Reset's own code
   resets : {c : Call} {s : State} → isReset c s ≡ true → Because c s (resetCode s)
   -- 11h: Answer to a Select
-  answers : {s : State} → Quiet s → s .wire .connection ≡ Selecting → isSelectAndTransfer (s .transfer .running) ≡ false
+  answers : {s : State} → goesOn (s .activity) ≡ true → s .wire .connection ≡ Selecting → isSelectAndTransfer (s .activity) ≡ false
       → Because answer s 0x11
   -- 16h: the resume at 60h
   resumes : {c : Call} {s : State} (k : ℕ) → isCommand k c s ≡ true → either (eqb k 0x08) (eqb k 0x09) ≡ true → Quiet s
-      → isRunning (s .transfer .running) ≡ false → s .wire .connection ≡ Connected → s .registers .descriptor .phase ≡ 0x60
+      → isRunning (s .activity) ≡ false → s .wire .connection ≡ Connected → s .registers .descriptor .phase ≡ 0x60
       → Because c s 0x16
   -- 20h: the last Message In byte of a Transfer Info whose data does not come in
   takes-last : {n b m : ℕ} {s : State} → LastMessage n b m s → isIncoming (s .transfer .direction) ≡ false
       → Because (request n b m) s 0x20
   -- 22h: Abort, not connected
-  aborts : {c : Call} {s : State} → isCommand 0x01 c s ≡ true → Quiet s → isRunning (s .transfer .running) ≡ true
+  aborts : {c : Call} {s : State} → isCommand 0x01 c s ≡ true → goesOn (s .activity) ≡ true
       → isConnected (s .wire .connection) ≡ false → Because c s 0x22
   -- 40h: a command that is not valid, and no command runs
   refuses : {c : Call} {s : State} (k : ℕ) → isCommand k c s ≡ true → eqb k 0x00 ≡ false → Quiet s
-      → isRunning (s .transfer .running) ≡ false → isValid k s ≡ false → Because c s 0x40
+      → isRunning (s .activity) ≡ false → isValid k s ≡ false → Because c s 0x40
   -- 42h: Time, selecting, when the units that have added up reach register 02, which is not 0
-  times-out : {n : ℕ} {s : State} → isGood (time n) ≡ true → Quiet s → s .wire .connection ≡ Selecting
+  times-out : {n : ℕ} {s : State} → isGood (time n) ≡ true → goesOn (s .activity) ≡ true → s .wire .connection ≡ Selecting
       → eqb (s .registers .setup .timeout) 0 ≡ false → leb (s .registers .setup .timeout) (s .wire .elapsed + n) ≡ true
       → Because (time n) s 0x42
   -- 80h: Reselection, not connected, other than by the Target that a waiting Select-And-Transfer names
@@ -210,10 +208,10 @@ pub data Because : Call → State → ℕ → Type 0 where
       → isConnected (s .wire .connection) ≡ false → both (isWaiting (s .wire .connection)) (namesTarget lines s) ≡ false
       → Because (reselection lines) s 0x80
   -- 85h: Free, connected and idle
-  frees : {s : State} → Quiet s → s .wire .connection ≡ Connected → isIdle (s .transfer .running) ≡ true
+  frees : {s : State} → Quiet s → s .wire .connection ≡ Connected → isIdle (s .activity) ≡ true
       → Because free s 0x85
   -- 88h+p: a Request of a phase not yet reported, connected and idle
-  asks : {n b m : ℕ} {p : Phase} {s : State} → Offered n b m p s → isIdle (s .transfer .running) ≡ true
+  asks : {n b m : ℕ} {p : Phase} {s : State} → Offered n b m p s → isIdle (s .activity) ≡ true
       → isNoted p (s .wire .seen .reported) ≡ false → Because (request n b m) s (0x88 + phaseNumber p)
 
 pub record RaisedBecause (f : Call → State → Outcome) : Type 0 where
@@ -222,9 +220,9 @@ pub record RaisedBecause (f : Call → State → Outcome) : Type 0 where
   pub code : (c : Call) (s : State) (k : ℕ) → Because c s k → f c s .state .status .code ≡ k
 
 pub record EndingBecause (f : Call → State → Outcome) : Type 0 where
-  pub sound : (c : Call) (s : State) (k : ℕ) → f c s .state .status .pending ≡ Ending k
-      → (s .status .pending ≡ Ending k) ⊎ Begins c s k
-  pub complete : (c : Call) (s : State) (k : ℕ) → Begins c s k → f c s .state .status .pending ≡ Ending k
-  pub read-out-sound : (c : Call) (s : State) → f c s .state .status .pending ≡ ReadOut
-      → (s .status .pending ≡ ReadOut) ⊎ BeginsReadOut c s
-  pub read-out-complete : (c : Call) (s : State) → BeginsReadOut c s → f c s .state .status .pending ≡ ReadOut
+  pub sound : (c : Call) (s : State) (k : ℕ) → pending (f c s .state) ≡ Ending k
+      → (pending s ≡ Ending k) ⊎ Begins c s k
+  pub complete : (c : Call) (s : State) (k : ℕ) → Begins c s k → pending (f c s .state) ≡ Ending k
+  pub read-out-sound : (c : Call) (s : State) → pending (f c s .state) ≡ ReadOut
+      → (pending s ≡ ReadOut) ⊎ BeginsReadOut c s
+  pub read-out-complete : (c : Call) (s : State) → BeginsReadOut c s → pending (f c s .state) ≡ ReadOut

@@ -18,9 +18,8 @@ use Rattle.chip.specs.Interrupts.{interrupted, busy, bytesUnread}
 use Rattle.chip.specs.Calls.{Call, Outcome, time, answer, reselection, request, free, run}
 use Rattle.chip.specs.declared.State.{State}
 use Rattle.chip.specs.declared.Phase.{Phase}
-use Rattle.chip.specs.declared.Pending.the-variants.{Ending}
 use Rattle.chip.specs.declared.Connection.the-variants.{Disconnected, Selecting, Connected}
-use Rattle.unread.specs.Status.{isCommand, isReset, isSelection, isAnswer, raised}
+use Rattle.unread.specs.Status.{Ending, pending, isCommand, isReset, isSelection, isAnswer, raised}
 use Rattle.unread.specs.Because.{Begins, ReadsOut, isIdle}
 use Rattle.chip.specs.Commands.{resetCode}
 
@@ -33,8 +32,8 @@ pub data Since (f : Call → State → Outcome) (B N : Call → State → Type 0
   still : (l : List Call) (c : Call) → Since f B N l → N c (run f l fresh) → Since f B N (l ++ (c ∷ []))
 
 pub record EndingsBegun (f : Call → State → Outcome) : Type 0 where
-  pub begun : (l : List Call) (k : ℕ) → run f l fresh .status .pending ≡ Ending k
-      → Since f (λ c s. Begins c s k) (λ c s. s .status .pending ≡ Ending k) l
+  pub begun : (l : List Call) (k : ℕ) → pending (run f l fresh) ≡ Ending k
+      → Since f (λ c s. Begins c s k) (λ c s. pending s ≡ Ending k) l
 
 pub record Selects (f : Call → State → Outcome) (c : Call) (s : State) : Type 0 where
   pub command : isSelection c s ≡ true
@@ -51,7 +50,7 @@ pub record SelectionsBegun (f : Call → State → Outcome) : Type 0 where
 
 abbrev pub ByFree : (Call → State → Outcome) → List Call → Call → ℕ → Type 0
 ByFree f l c k =
-    (c ≡ free) ⊎ (ReadsOut c (run f l fresh) k × Since f (λ d s. (d ≡ free) × Begins d s k) (λ d s. s .status .pending ≡ Ending k) l)
+    (c ≡ free) ⊎ (ReadsOut c (run f l fresh) k × Since f (λ d s. (d ≡ free) × Begins d s k) (λ d s. pending s ≡ Ending k) l)
 
 pub record CodesOnlyBy (f : Call → State → Outcome) : Type 0 where
   -- the code that a Reset has, in whatever state, only by Reset
@@ -75,4 +74,4 @@ pub record CodesOnlyBy (f : Call → State → Outcome) : Type 0 where
   -- 88h+p only by a Request of phase p, connected and idle
   pub by-request : (l : List Call) (c : Call) (p : Phase) → Raises f l c (0x88 + phaseNumber p)
       → (n : ℕ) × (b : ℕ) × (m : ℕ) × (c ≡ request n b m) × (phaseOf n ≡ p) × (run f l fresh .wire .connection ≡ Connected)
-      × (isIdle (run f l fresh .transfer .running) ≡ true)
+      × (isIdle (run f l fresh .activity) ≡ true)

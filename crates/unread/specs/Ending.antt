@@ -18,7 +18,7 @@ use Prim.Native.Nat.{ℕ}
 use lib.Dec.{eqb, leb}
 use Rattle.chip.specs.Choice.{both, either}
 use Rattle.chip.specs.Lines.{ownIdentity}
-use Rattle.chip.specs.State.{nothingRuns}
+use Rattle.chip.specs.State.{nothingMoves}
 use Rattle.chip.specs.Fifo.{front, pop, push, empty}
 use Rattle.chip.specs.Interrupts.{interrupted, inEnding, isIncoming, isOutgoing, bytesUnread}
 use Rattle.chip.specs.Calls.{Call, Outcome, pointer, auxiliary, register, block, time, answer, reselection, request, free, kind, isGood, isSet}
@@ -26,11 +26,11 @@ use Rattle.chip.specs.declared.State.{State}
 use Rattle.chip.specs.declared.Fifo.{Fifo}
 use Rattle.chip.specs.declared.Answer.{Answer}
 use Rattle.chip.specs.declared.Answer.the-variants.{Done, Held, OutOfPlace, BadNumber, Blind, CommandIgnored, ReselectionIgnored, NoDataNow, Reported}
-use Rattle.chip.specs.declared.Pending.the-variants.{Nothing, Interrupt, ReadOut}
+use Rattle.chip.specs.declared.Activity.the-variants.{Idle, Interrupt}
+use Rattle.chip.specs.Activity.{runningNumber}
 use Rattle.chip.specs.declared.Connection.the-variants.{Disconnected, Waiting}
 use Rattle.chip.specs.declared.Direction.the-variants.{Unfixed}
-use Rattle.chip.specs.declared.Running.the-variants.{Idle}
-use Rattle.unread.specs.Status.{isReset, isDisconnect, isDropped, readsAt}
+use Rattle.unread.specs.Status.{Nothing, ReadOut, pending, isReset, isDisconnect, isDropped, readsAt}
 use Rattle.unread.specs.Because.{LastMessage, Brings, BeginsReadOut, ReadsLast}
 
 abbrev pub isEvent : Call → Bool
@@ -73,18 +73,17 @@ pub record Waits (q : Fifo) (s t : State) : Type 0 where
   pub way : t .transfer .direction ≡ s .transfer .direction
 
 pub record Dropped (t : State) : Type 0 where
-  pub pending : t .status .pending ≡ Nothing
+  pub activity : t .activity ≡ Idle
   pub connection : t .wire .connection ≡ Disconnected
-  pub running : t .transfer .running ≡ Idle
   pub way : t .transfer .direction ≡ Unfixed
   pub bytes : t .fifo ≡ empty
   pub atn : t .wire .handshake .atn ≡ false
   pub ack : t .wire .handshake .ack ≡ false
 
 pub record ResetDropped (s t : State) : Type 0 where
-  pub pending : t .status .pending ≡ Interrupt
+  pub activity : t .activity ≡ Interrupt
   pub connection : t .wire .connection ≡ Disconnected
-  pub transfer : t .transfer ≡ nothingRuns
+  pub transfer : t .transfer ≡ nothingMoves
   pub bytes : t .fifo ≡ empty
   pub atn : t .wire .handshake .atn ≡ false
   pub ack : t .wire .handshake .ack ≡ false
@@ -94,10 +93,10 @@ abbrev pub EndingIsStill : (Call → State → Outcome) → Type 0
 EndingIsStill f = (c : Call) (s : State) → inEnding s ≡ true → isEvent c ≡ true → Untouched f c s
 
 pub record EndingStays (f : Call → State → Outcome) : Type 0 where
-  -- what is pending stays pending, a code to come with its number
+  -- what is pending stays pending, a code to come with its number, and so does the command
   pub stays : (c : Call) (s : State) → inEnding s ≡ true → isDropped c s ≡ false → (ReadsLast c s → ⊥)
-      → f c s .state .status .pending ≡ s .status .pending
-  -- so do the running command, the way of data and the mark of a single byte
+      → f c s .state .activity ≡ s .activity
+  -- so do the way of data and the mark of a single byte
   pub transfer-stays : (c : Call) (s : State) → inEnding s ≡ true → isDropped c s ≡ false → (ReadsLast c s → ⊥)
       → f c s .state .transfer ≡ s .transfer
   -- the bytes that wait stay, but for reads of the Data register. (With the way out a write would add one; no ending begins so, by `begins-keeps`.)
@@ -108,9 +107,11 @@ pub record EndingStays (f : Call → State → Outcome) : Type 0 where
       → (f c s .answer ≡ Done (front (s .fifo))) × (f c s .state .fifo ≡ pop (s .fifo))
   -- after the last byte none is unread
   pub all-read : (c : Call) (s : State) → ReadsLast c s → bytesUnread (f c s .state) ≡ false
-  -- where no code is to come, the last byte that is read leads to the wait for reselection. (Where one is, it is raised: `RaisedBecause`.)
-  pub waits-then : (c : Call) (s : State) → s .status .pending ≡ ReadOut → ReadsLast c s
-      → (f c s .state .status .pending ≡ Nothing) × (f c s .state .wire .connection ≡ Waiting)
+  -- where no code is to come, the last byte that is read leads to the wait for reselection, of the same command. (Where one is, it is
+  -- raised: `RaisedBecause`.)
+  pub waits-then : (c : Call) (s : State) → pending s ≡ ReadOut → ReadsLast c s
+      → (pending (f c s .state) ≡ Nothing) × (runningNumber (f c s .state .activity) ≡ runningNumber (s .activity))
+      × (f c s .state .wire .connection ≡ Waiting)
   -- the call that begins it leaves every byte that waits: those that waited, with the last Message In byte where it is that
   pub begins-keeps : (c : Call) (s : State) (k : ℕ) → Brings c s k → bytesUnread s ≡ true → Waits (s .fifo) s (f c s .state)
   pub begins-with-last : (n b m : ℕ) (s : State) → LastMessage n b m s → isIncoming (s .transfer .direction) ≡ true

@@ -23,11 +23,9 @@ use Rattle.chip.specs.Choice.{pick, both, either}
 use Rattle.chip.specs.Calls.{Call, Outcome, run}
 use Rattle.chip.specs.Commands.{resetCode}
 use Rattle.chip.specs.declared.State.{State}
-use Rattle.chip.specs.declared.Pending.{Pending}
-use Rattle.chip.specs.declared.Pending.the-variants.{Nothing, Interrupt, Ending, ReadOut}
 use Rattle.chip.specs.declared.Answer.{Answer}
 use Rattle.chip.specs.declared.Answer.the-variants.{Done, Held, OutOfPlace, BadNumber, Blind, CommandIgnored, ReselectionIgnored, NoDataNow, Reported}
-use Rattle.unread.specs.Status.{isReset, isDisconnect, readsAt, raised}
+use Rattle.unread.specs.Status.{Pending, Nothing, Interrupt, Ending, ReadOut, pending, isReset, isDisconnect, readsAt, raised}
 
 pub data Happening : Type 0 where
   raises : (code : ℕ) → Happening
@@ -74,8 +72,8 @@ unfoldable pub noted : Call → State → Outcome → List Happening
 noted c s o =
     pick (isReset c s) (resets (resetCode s) ∷ [])
     (pick (raised c s (o .state)) (raises (o .state .status .code) ∷ [])
-    (pick (both (isDisconnect c s) (isComing (s .status .pending))) (disconnects ∷ [])
-    (pick (readsAt 0x17 c s) (readBy (o .answer)) (begunBy (s .status .pending) (o .state .status .pending)))))
+    (pick (both (isDisconnect c s) (isComing (pending s))) (disconnects ∷ [])
+    (pick (readsAt 0x17 c s) (readBy (o .answer)) (begunBy (pending s) (pending (o .state))))))
 
 unfoldable pub history : (Call → State → Outcome) → List Call → State → List Happening
 history f [] s = []
@@ -141,9 +139,9 @@ pub record NoStatusLost (f : Call → State → Outcome) : Type 0 where
   -- 17h shows the code raised last; INT says that it waits to be read, and an ending which code is to come
   pub code-is-last : (l : List Call) (s : State) → run f l s .status .code ≡ lastCode (s .status .code) (history f l s)
   pub pending-is-owed : (l : List Call) (s : State)
-      → owedBy (run f l s .status .pending) ≡ owedAfter (owedBy (s .status .pending)) (history f l s)
+      → owedBy (pending (run f l s)) ≡ owedAfter (owedBy (pending s)) (history f l s)
   -- none is lost, and a read gives the last
-  pub orderly : (l : List Call) (s : State) → Orderly (s .status .code) (owedBy (s .status .pending)) (history f l s)
+  pub orderly : (l : List Call) (s : State) → Orderly (s .status .code) (owedBy (pending s)) (history f l s)
   -- between two raised codes stands a read of 17h, or the later one is Reset's
   pub read-between : (l : List Call) (s : State) (g h j : List Happening) (x : Happening) (k : ℕ)
       → history f l s ≡ g ++ (x ∷ (h ++ (raises k ∷ j))) → isRaising x ≡ true → hasRead h ≡ true

@@ -8,6 +8,7 @@
 --   isDropped c s      .. one that drops an ending with its bytes and its code: Reset, or Disconnect while connected
 --   isAnswer c         the call c is an Answer
 --   readsAt a c s      the call c, made in s, reads the register at the address a
+--   Pending pending s  what is pending in s for the host, whatever command runs: nothing, INT, an ending with its code, a read-out
 --   raised c s t       the call c, which led from s to t, raised the code that t shows at 17h
 -- INT is `interrupted` of the chip's Interrupts, the code at 17h is `status .code`.
 use mathlib.Core.Bool.{Bool, true, false, not}
@@ -19,6 +20,22 @@ use Rattle.chip.specs.Interrupts.{interrupted}
 use Rattle.chip.specs.Connections.{isConnected}
 use Rattle.chip.specs.Calls.{Call, pointer, auxiliary, register, block, time, answer, reselection, request, free, isGood, isSet}
 use Rattle.chip.specs.declared.State.{State}
+use Rattle.chip.specs.declared.Activity.{Activity}
+use Rattle.chip.specs.declared.Activity.the-variants as A
+
+pub data Pending : Type 0 where
+  Nothing Interrupt ReadOut : Pending
+  Ending : (code : ℕ) → Pending
+
+abbrev pub pendingIn : Activity → Pending
+pendingIn A.Idle = Nothing
+pendingIn A.Interrupt = Interrupt
+pendingIn (A.Runs r) = Nothing
+pendingIn (A.Ends r k) = Ending k
+pendingIn (A.ReadOut r) = ReadOut
+
+abbrev pub pending : State → Pending
+pending s = pendingIn (s .activity)
 
 unfoldable pub isCommandOf : (ℕ → Bool) → Call → State → Bool
 isCommandOf t (pointer m b) s = false

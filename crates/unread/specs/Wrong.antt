@@ -1,6 +1,7 @@
 -- Wrong steps, for the laws to refuse: each is the step with one mistake.
 --   hasty      Time runs out although INT is set
 --   peeking    reading auxiliary status clears INT
+--   eager      a Select is taken although INT is set: the command runs, and the status is gone
 --   mumbling   a Free puts its code at 17h without INT
 --   soft       Reset does nothing
 --   misnames   Reset tells 16h
@@ -25,20 +26,23 @@ use mathlib.Core.Bool.{Bool, not}
 use Prim.Native.Nat.{ℕ}
 use lib.Dec.{eqb}
 use Rattle.chip.specs.Choice.{pick, both}
-use Rattle.chip.specs.State.{setFifo, setCode, setPending, setDirection, setConnection}
+use Rattle.chip.specs.State.{setFifo, setCode, setActivity, setDirection, setConnection}
 use Rattle.chip.specs.Fifo.{empty}
 use Rattle.chip.specs.Answers.{done, says}
 use Rattle.chip.specs.Interrupts.{interrupted, inEnding, settledBy, bytesUnread}
 use Rattle.chip.specs.Connections.{isConnected}
+use Rattle.chip.specs.Commands.{selecting}
 use Rattle.chip.specs.Events.{timedOut}
-use Rattle.chip.specs.Running.{isSelectAndTransfer, setsAtn}
+use Rattle.chip.specs.Activity.{isSelectAndTransfer, setsAtn, readsOut, withoutInterrupt}
 use Rattle.chip.specs.Calls.{Call, Outcome, kind, plain, step}
 use Rattle.chip.specs.declared.State.{State}
-use Rattle.chip.specs.declared.Pending.the-variants.{Nothing, Ending, ReadOut}
+use Rattle.chip.specs.declared.Activity.{Activity}
+use Rattle.chip.specs.declared.Activity.the-variants.{Idle, Interrupt, Runs, Ends, ReadOut}
+use Rattle.chip.specs.declared.Command.the-variants.{SelectWithAtn, TransferInfo}
 use Rattle.chip.specs.declared.Connection.the-variants.{Disconnected}
 use Rattle.chip.specs.declared.Direction.the-variants.{Unfixed}
 use Rattle.chip.specs.declared.Answer.the-variants.{Done}
-use Rattle.unread.specs.Status.{isReset, isDisconnect, readsAt}
+use Rattle.unread.specs.Status.{isReset, isSelection, isDisconnect, readsAt}
 
 unfoldable pub instead : (Call → State → Bool) → (State → State) → Call → State → Outcome
 instead test g c s = pick (test c s) (plain (done 0 (g s))) (step c s)
@@ -51,7 +55,11 @@ unfoldable pub hasty : Call → State → Outcome
 hasty = changed 4 timedOut
 
 unfoldable pub peeking : Call → State → Outcome
-peeking = changed 1 (setPending Nothing)
+peeking = changed 1 (λ s. setActivity (withoutInterrupt (s .activity)) s)
+
+unfoldable pub eager : Call → State → Outcome
+unfolding instead
+eager = instead (λ c s. both (isSelection c s) (interrupted s)) (selecting SelectWithAtn)
 
 unfoldable pub mumbling : Call → State → Outcome
 mumbling = changed 8 (setCode 0x85)
@@ -69,7 +77,7 @@ unfoldable pub hurried : Call → State → Outcome
 hurried c s =
     record {
       answer = step c s .answer;
-      state = settledBy (step c s .state .status .pending) (step c s .state);
+      state = settledBy (step c s .state .activity) (step c s .state);
       lent = step c s .lent;
     }
 
@@ -80,7 +88,7 @@ unfoldable pub mistaken : Call → State → Outcome
 mistaken = changed 5 timedOut
 
 unfoldable pub meddling : Call → State → Outcome
-meddling = changed 8 (setPending (Ending 0x42))
+meddling = changed 8 (setActivity (Ends TransferInfo 0x42))
 
 unfoldable pub deaf : Call → State → Outcome
 deaf = changed 5 (λ s. s)
@@ -92,15 +100,31 @@ whileEnding n c s = both (eqb (kind c) n) (inEnding s)
 -- connected, with Select-And-Transfer without ATN
 abbrev servesNine : State → Bool
 servesNine s =
-    both (isConnected (s .wire .connection)) (both (isSelectAndTransfer (s .transfer .running)) (not (setsAtn (s .transfer .running))))
+    both (isConnected (s .wire .connection)) (both (isSelectAndTransfer (s .activity)) (not (setsAtn (s .activity))))
+
+-- the ending forgotten, and the command kept
+abbrev onward : Activity → Activity
+onward Idle = Idle
+onward Interrupt = Interrupt
+onward (Runs r) = Runs r
+onward (Ends r k) = Runs r
+onward (ReadOut r) = Runs r
 
 unfoldable pub drops : Call → State → Outcome
 unfolding instead
-drops = instead (λ c s. both (whileEnding 4 c s) (servesNine s)) (setPending Nothing)
+drops = instead (λ c s. both (whileEnding 4 c s) (servesNine s)) (λ s. setActivity (onward (s .activity)) s)
+
+-- 42h to come
+abbrev renamed : Activity → Activity
+renamed Idle = Idle
+renamed Interrupt = Interrupt
+renamed (Runs r) = Runs r
+renamed (Ends r k) = Ends r 0x42
+renamed (ReadOut r) = Ends r 0x42
 
 unfoldable pub renames : Call → State → Outcome
 unfolding instead
-renames = instead (whileEnding 4) (setPending (Ending 0x42))
+renames = instead (whileEnding 4) (λ s. setActivity (renamed (s .activity)) s)
 
 unfoldable pub spills : Call → State → Outcome
 unfolding instead
@@ -114,8 +138,8 @@ unfoldable pub invents : Call → State → Outcome
 unfolding instead
 invents =
     instead
-    (λ c s. both (eqb (kind c) 4) (both (both (not (interrupted s)) (not (inEnding s))) (both (isSelectAndTransfer (s .transfer .running)) (bytesUnread s))))
-    (λ s. setPending ReadOut (setConnection Disconnected s))
+    (λ c s. both (eqb (kind c) 4) (both (both (not (interrupted s)) (not (inEnding s))) (both (isSelectAndTransfer (s .activity)) (bytesUnread s))))
+    (λ s. setActivity (readsOut (s .activity)) (setConnection Disconnected s))
 
 unfoldable pub blanks : Call → State → Outcome
 blanks c s = pick (both (readsAt 0x19 c s) (inEnding s)) (plain (says (Done 0) (step c s .state))) (step c s)
@@ -130,7 +154,7 @@ eats c s =
 
 unfoldable pub hollows : Call → State → Outcome
 unfolding instead
-hollows = instead (λ c s. both (isDisconnect c s) (inEnding s)) (λ s. setPending Nothing (setConnection Disconnected s))
+hollows = instead (λ c s. both (isDisconnect c s) (inEnding s)) (λ s. setActivity (onward (s .activity)) (setConnection Disconnected s))
 
 unfoldable pub shuts : Call → State → Outcome
 unfolding instead

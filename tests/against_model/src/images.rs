@@ -8,6 +8,7 @@ const LIMITS: [(usize, u32); 13] =
     [(26, 2), (27, 2), (28, 4), (30, 4), (31, 6), (32, 3), (33, 2), (34, 2), (35, 2), (36, 9), (37, 9), (38, 8), (40, 13)];
 const PENDING: usize = 28;
 const ENDING_CODE: usize = 29;
+const COMMAND: usize = 31;
 const WAITING: usize = 40;
 const FIFO: usize = 41;
 
@@ -29,8 +30,14 @@ fn lead_on(image: &mut Image, random: &mut Random) {
     image[28] = random.one_of(&[0, 0, 0, 1, 2, 3]);
 }
 
-/// Unused places to 0, an ending's code only with an ending.
-fn tidy(image: &mut Image) {
+/// Unused places to 0, INT only where no command runs, an ending only where one does, its code only with an ending.
+fn tidy(image: &mut Image, random: &mut Random) {
+    match image[PENDING] {
+        0 => {}
+        1 => image[COMMAND] = 0,
+        _ if image[COMMAND] == 0 => image[COMMAND] = 1 + random.below(5) as u8,
+        _ => {}
+    }
     if image[PENDING] != 2 {
         image[ENDING_CODE] = 0;
     }
@@ -48,7 +55,7 @@ pub fn any_state(random: &mut Random) -> Image {
     if random.percent(85) {
         lead_on(&mut image, random);
     }
-    tidy(&mut image);
+    tidy(&mut image, random);
     image
 }
 
@@ -59,16 +66,22 @@ pub fn near(image: &Image, random: &mut Random) -> Image {
         let at = random.below(IMAGE_LENGTH as u32) as usize;
         image[at] = random.below(limit(at)) as u8;
     }
-    tidy(&mut image);
+    tidy(&mut image, random);
     image
 }
 
-/// One byte out of its range, or a byte where 0 must stand; now and then it is an image all the same.
+/// INT beside a running command, one byte out of its range, or a byte where 0 must stand; now and then it is an image all the same.
 pub fn damaged(image: &Image, random: &mut Random) -> Image {
     let mut image = *image;
-    let at = match random.below(3) {
-        0 => ENDING_CODE,
-        1 => FIFO + random.below(12) as usize,
+    let at = match random.below(4) {
+        0 => {
+            image[PENDING] = 1;
+            image[ENDING_CODE] = 0;
+            image[COMMAND] = 1 + random.below(5) as u8;
+            return image;
+        }
+        1 => ENDING_CODE,
+        2 => FIFO + random.below(12) as usize,
         _ => random.one_of(&LIMITS).0,
     };
     image[at] = random.byte();

@@ -1,9 +1,9 @@
 //! Models that are wrong on purpose: the run has to catch each, or it proves nothing. The first four are the paper's "Readings to
 //! shut out"; then some of its programs that "have to fall"; then the fault that the library is proved against, and one like it; then
-//! mistakes that are easily made.
+//! three that paper 02's Req 14 shuts out; then mistakes that are easily made.
 
 use crate::call::{Call, Slice};
-use model::{Answer, Connection, Controller, Pending, Running, Way};
+use model::{Answer, Connection, Controller, Image, Pending, Running, Way};
 
 #[derive(Clone, Copy, PartialEq, Debug)]
 pub enum Mistake {
@@ -15,6 +15,9 @@ pub enum Mistake {
     NodsAtAllButTheFirstByte,
     AnswerTakenOverUnreadTimeout,
     TimeForgetsAnEnding,
+    IntWithARunningCommandIsAState,
+    CommandTakenOverUnreadStatus,
+    TimeHeldOverUnreadStatus,
     TimeoutOneUnitLate,
     ThirteenthByteAccepted,
     PointerMovesAtData,
@@ -29,7 +32,7 @@ pub enum Mistake {
 }
 
 impl Mistake {
-    pub const ALL: [Mistake; 19] = [
+    pub const ALL: [Mistake; 22] = [
         Mistake::CountFallsOnHostWrite,
         Mistake::AuxiliaryReadClearsInt,
         Mistake::SuccessCodeBeforeReadOut,
@@ -38,6 +41,9 @@ impl Mistake {
         Mistake::NodsAtAllButTheFirstByte,
         Mistake::AnswerTakenOverUnreadTimeout,
         Mistake::TimeForgetsAnEnding,
+        Mistake::IntWithARunningCommandIsAState,
+        Mistake::CommandTakenOverUnreadStatus,
+        Mistake::TimeHeldOverUnreadStatus,
         Mistake::TimeoutOneUnitLate,
         Mistake::ThirteenthByteAccepted,
         Mistake::PointerMovesAtData,
@@ -50,6 +56,16 @@ impl Mistake {
         Mistake::StatusKeepsOutgoingFifo,
         Mistake::LunTakenForBusIdentity,
     ];
+
+    /// The state that lent bytes say to a model with the mistake.
+    pub fn state_of(self, image: &Image) -> Option<Controller> {
+        let mut bytes = *image;
+        if self == Mistake::IntWithARunningCommandIsAState && bytes[28] == 1 && bytes[31] != 0 {
+            bytes[28] = 0;
+            return Controller::from_image(&bytes).map(|state| Controller { pending: Pending::Interrupt, ..state });
+        }
+        Controller::from_image(&bytes)
+    }
 
     /// The right call, and then what the mistake makes of it.
     pub fn call(self, call: Call, state: &mut Controller, slice: &mut Slice) -> Answer {
@@ -65,6 +81,7 @@ impl Mistake {
             (Mistake::AuxiliaryReadClearsInt, Call::Auxiliary, _) if state.has_interrupt() => state.pending = Pending::Nothing,
             (Mistake::SuccessCodeBeforeReadOut, _, _) if state.pending == Pending::Ending(0x16) => {
                 state.pending = Pending::Interrupt;
+                state.running = Running::Nothing;
                 state.code = 0x16;
             }
             (Mistake::ReportedByteTaken, Call::Request { phase, byte, .. }, Answer::Reported) if phase & 1 == 1 => {
@@ -88,6 +105,16 @@ impl Mistake {
                 if matches!(before.pending, Pending::Ending(_)) =>
             {
                 state.pending = Pending::Nothing;
+            }
+            (Mistake::CommandTakenOverUnreadStatus, Call::Register { mark: 1, byte }, Answer::CommandIgnored)
+                if before.has_interrupt() =>
+            {
+                *state = before;
+                state.pending = Pending::Nothing;
+                return state.register(1, byte);
+            }
+            (Mistake::TimeHeldOverUnreadStatus, Call::Time { .. }, Answer::Done(_)) if before.has_interrupt() => {
+                return Answer::Held;
             }
             (Mistake::TimeoutOneUnitLate, Call::Time { units }, _) if before.connection == Connection::Selecting => {
                 let sum = u32::from(before.elapsed) + units;

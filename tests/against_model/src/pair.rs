@@ -57,7 +57,8 @@ impl Pair {
     pub fn call(&mut self, call: Call) -> Result<Outcome, Difference> {
         if let Call::Lend(image) = call {
             self.library = image;
-            self.model = Controller::from_image(&image).map_or(Lent::NoImage(image), Lent::State);
+            let state = self.mistake.map_or_else(|| Controller::from_image(&image), |mistake| mistake.state_of(&image));
+            self.model = state.map_or(Lent::NoImage(image), Lent::State);
         }
         let (mut of_library, mut of_model) = (call.slice(), call.slice());
         let library = call.to_library(&mut self.library, &mut of_library);

@@ -11,9 +11,9 @@ impl Controller {
         matches!(self.pending, Pending::Ending(_) | Pending::ReadOut)
     }
 
-    /// BSY: "a Level II command runs"; while ending "BSY stays".
+    /// BSY: "a Level II command runs"; while ending "BSY stays", and so does the command.
     pub fn is_busy(&self) -> bool {
-        self.running != Running::Nothing || self.is_ending()
+        self.running != Running::Nothing
     }
 
     /// A code that waits for no read-out.

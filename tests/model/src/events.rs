@@ -4,14 +4,15 @@ use crate::answers::Answer;
 use crate::state::{BusId, Connection, Controller, Parity, Phase, Running, SOURCE_ID, TIMEOUT};
 
 impl Controller {
+    /// A selection is a command's, one that is not at its ending: an image may say selecting where none runs.
+    fn is_selecting(&self) -> bool {
+        self.connection == Connection::Selecting && self.running != Running::Nothing && !self.is_ending()
+    }
+
     /// "While selecting with register 02 not 0, units add up; when they reach it, code 42h, Disconnected."
     pub(crate) fn time_passes(&mut self, units: u8) -> Answer {
-        if self.connection != Connection::Selecting || self.is_ending() {
+        if !self.is_selecting() {
             return Answer::Done(0);
-        }
-        // "A Time event while a selection runs with INT set is Held too."
-        if self.has_interrupt() {
-            return Answer::Held;
         }
         let timeout = self.registers[TIMEOUT];
         if timeout == 0 {
@@ -29,20 +30,14 @@ impl Controller {
 
     /// "Connected, ATN set for 06 and 08; for 06/07 code 11h; for 08/09 phase register 10h."
     pub(crate) fn target_answers(&mut self) -> Answer {
-        if self.connection != Connection::Selecting {
+        if !self.is_selecting() {
             return Answer::OutOfPlace;
-        }
-        if self.is_ending() {
-            return Answer::Held;
         }
         if let Running::SelectAndTransfer { with_atn } = self.running {
             self.connect();
             self.atn |= with_atn;
             self.set_phase_register(0x10);
             return Answer::Done(0);
-        }
-        if self.has_interrupt() {
-            return Answer::Held;
         }
         let with_atn = self.running == Running::Select { with_atn: true };
         self.connect();
@@ -73,7 +68,7 @@ impl Controller {
         let is_awaited = self.connection == Connection::Waiting
             && matches!(self.running, Running::SelectAndTransfer { .. })
             && from == Some(self.destination());
-        if self.has_interrupt() && !is_awaited {
+        if self.has_interrupt() {
             return Answer::Held;
         }
         // "With two bits, SIV and the other identity go into 16h; with one, bits 3 to 0 become 0. Bits 7 to 4 stay."
@@ -117,22 +112,15 @@ impl Controller {
 
     /// Nothing is taken; "Reported, ending with" the code.
     pub(crate) fn report(&mut self, code: u8) -> Answer {
-        if self.has_interrupt() {
-            return Answer::Held;
-        }
         self.ending_with(code);
         Answer::Reported
     }
 
     /// "Bad parity on any byte that would be taken in sets PE; with HSP the byte is not taken or counted, ACK is held, answer 8,
-    /// ending with 43h." An answer is given where the byte is not taken. `ends` says that taking it would begin an ending.
-    pub(crate) fn refusal_of(&mut self, parity: Parity, ends: bool) -> Option<Answer> {
-        let halts = parity == Parity::Bad && self.hsp();
-        if (halts || ends) && self.has_interrupt() {
-            return Some(Answer::Held);
-        }
+    /// ending with 43h." An answer is given where the byte is not taken.
+    pub(crate) fn refusal_of(&mut self, parity: Parity) -> Option<Answer> {
         self.pe |= parity == Parity::Bad;
-        if halts {
+        if parity == Parity::Bad && self.hsp() {
             self.held_ack = true;
             self.ending_with(0x43);
             return Some(Answer::Reported);
@@ -167,9 +155,6 @@ impl Controller {
     }
 
     fn free_ending_with(&mut self, code: u8) -> Answer {
-        if self.has_interrupt() {
-            return Answer::Held;
-        }
         self.leave_bus();
         self.ending_with(code);
         Answer::Done(0)

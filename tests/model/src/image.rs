@@ -22,12 +22,13 @@ fn flag_in(byte: u8) -> Option<bool> {
     (byte <= 1).then_some(byte == 1)
 }
 
-fn pending_in(kind: u8, code: u8) -> Option<Pending> {
-    match (kind, code) {
-        (0, 0) => Some(Pending::Nothing),
-        (1, 0) => Some(Pending::Interrupt),
-        (2, code) => Some(Pending::Ending(code)),
-        (3, 0) => Some(Pending::ReadOut),
+/// "A lent image with both set is Bad number": INT where no command runs, an ending where one does.
+fn pending_in(kind: u8, code: u8, is_running: bool) -> Option<Pending> {
+    match (kind, code, is_running) {
+        (0, 0, _) => Some(Pending::Nothing),
+        (1, 0, false) => Some(Pending::Interrupt),
+        (2, code, true) => Some(Pending::Ending(code)),
+        (3, 0, true) => Some(Pending::ReadOut),
         _ => None,
     }
 }
@@ -114,7 +115,7 @@ impl Controller {
             pointer: image[0x19],
             lci: flag_in(image[0x1a])?,
             pe: flag_in(image[0x1b])?,
-            pending: pending_in(image[0x1c], image[0x1d])?,
+            pending: pending_in(image[0x1c], image[0x1d], image[0x1f] != 0)?,
             connection: connection_in(image[0x1e])?,
             running: running_in(image[0x1f])?,
             way: way_in(image[0x20])?,

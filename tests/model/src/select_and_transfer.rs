@@ -117,7 +117,7 @@ impl Controller {
         if self.fifo.is_full() {
             return Answer::Held;
         }
-        if let Some(refusal) = self.refusal_of(parity, false) {
+        if let Some(refusal) = self.refusal_of(parity) {
             return refusal;
         }
         self.way = Way::In;
@@ -135,7 +135,7 @@ impl Controller {
 
     /// "Status goes to 0Fh; 50h. Going out, the FIFO is dropped and DBR closes; a count not used up stays."
     fn take_status(&mut self, byte: u8, parity: Parity) -> Answer {
-        if let Some(refusal) = self.refusal_of(parity, false) {
+        if let Some(refusal) = self.refusal_of(parity) {
             return refusal;
         }
         self.registers[TARGET_LUN] = byte;
@@ -148,7 +148,7 @@ impl Controller {
     }
 
     fn take_message(&mut self, byte: u8, parity: Parity, phase_register: u8) -> Answer {
-        if let Some(refusal) = self.refusal_of(parity, false) {
+        if let Some(refusal) = self.refusal_of(parity) {
             return refusal;
         }
         self.set_phase_register(phase_register);
@@ -157,7 +157,7 @@ impl Controller {
 
     /// "02 gives 41h, ACK held, ending with 21h"
     fn take_save_pointer(&mut self, parity: Parity) -> Answer {
-        if let Some(refusal) = self.refusal_of(parity, true) {
+        if let Some(refusal) = self.refusal_of(parity) {
             return refusal;
         }
         self.set_phase_register(0x41);
@@ -168,7 +168,7 @@ impl Controller {
 
     /// "Message In 00 gives 60h, ending with 16h"
     fn take_command_complete(&mut self, parity: Parity) -> Answer {
-        if let Some(refusal) = self.refusal_of(parity, true) {
+        if let Some(refusal) = self.refusal_of(parity) {
             return refusal;
         }
         self.set_phase_register(0x60);
@@ -179,9 +179,6 @@ impl Controller {
     /// "42h: Free gives 43h, Disconnected; with IDI, ending with 85h; without it, an outgoing FIFO stays, an incoming one is read
     /// out first .. then it waits for reselection."
     pub(crate) fn free_after_disconnect_message(&mut self) -> Answer {
-        if self.has_interrupt() && (self.idi() || self.has_incoming()) {
-            return Answer::Held;
-        }
         self.leave_bus();
         self.set_phase_register(0x43);
         if self.idi() {

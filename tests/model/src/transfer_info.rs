@@ -38,7 +38,7 @@ impl Controller {
         }
         // "The last Message In byte holds ACK and is ending with 20h."
         let ends = phase == Phase::MessageIn && self.left() == 1;
-        if let Some(refusal) = self.refusal_of(parity, ends) {
+        if let Some(refusal) = self.refusal_of(parity) {
             return refusal;
         }
         self.put_incoming(byte);

@@ -7,21 +7,21 @@ use borrow.Author.Needs.{needs}
 use Rattle.host.proofs.read_at.Statement.{statement}
 use Rattle.host.proofs.read_at.Tie as tie
 
-pending-requires : tie.Need-pending-requires
-pending-requires c κs = search needs
+activity-requires : tie.Need-activity-requires
+activity-requires c κs = search needs
 
 without-interrupt-requires : tie.Need-without-interrupt-requires
 without-interrupt-requires c κs = search needs
 
-pending-requires-2 : tie.Need-pending-requires-2
-pending-requires-2 c κs = search needs
+activity-requires-2 : tie.Need-activity-requires-2
+activity-requires-2 c κs = search needs
 
 done-requires : tie.Need-done-requires
 done-requires c κs = search needs
 
 returns : tie.Need-returns
 unfolding readAt pick
-returns c = simp (eq-eqb _ _ (c .before .before .before .before .if1 .taken), c .before .before .before .pending .ensures, c .before .before .without-interrupt .ensures, c .before .pending2 .ensures, c .done .ensures)
+returns c = simp (eq-eqb _ _ (c .before .before .before .before .if1 .taken), c .before .before .before .activity .ensures, c .before .before .without-interrupt .ensures, c .before .activity2 .ensures, c .done .ensures)
 
 done-requires-2 : tie.Need-done-requires-2
 done-requires-2 c κs = search needs
@@ -51,9 +51,9 @@ pub read-at-spec : {M : Type 1} → statement M
 read-at-spec =
     tie.close
     (tie.spec
-    pending-requires
+    activity-requires
     without-interrupt-requires
-    pending-requires-2
+    activity-requires-2
     done-requires
     returns
     done-requires-2

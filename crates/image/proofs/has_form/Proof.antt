@@ -1,6 +1,6 @@
 -- `image::has_form` meets its contract: the flag that the code makes is the definition's ranges, one beside the other.
 use mathlib.Core.Path.{_≡_, sym, _∙_}
-use mathlib.Core.Bool.{Bool, true, false, _&&_, _||_}
+use mathlib.Core.Bool.{Bool, true, false, _&&_}
 use mathlib.Core.List.{List}
 use Prim.Native.Nat.{ℕ}
 use lib.Dec.{eqb, ltb}
@@ -8,29 +8,27 @@ use lib.ListN.{length, getD, drop}
 use borrow.Author.Tests.{eq-eqb, ne-eqb}
 use Rattle.chip.specs.Choice.{both}
 use Rattle.chip.specs.Connections.{connectionCount}
-use Rattle.chip.specs.Running.{runningCount}
+use Rattle.chip.specs.Activity.{isActivity}
 use Rattle.chip.specs.Image.{imageLength, isImage, fifoPlace}
 use Rattle.chip.specs.Fifo.{isFifo}
-use Rattle.chip.proofs.ImageTests.{both-on, both-and, either-or, and-chain}
+use Rattle.chip.proofs.ImageTests.{both-on, both-and, and-chain}
 use Rattle.image.proofs.Ends.{valid-end}
 use borrow.Author.Needs.{needs}
 use Rattle.image.proofs.has_form.Statement.{statement}
 use Rattle.image.proofs.has_form.Tie as tie
 
-lined-up : (a b c d e f g h i j k l m z : Bool)
-    → both a (both b (both c (both d (both e (both f (both g (both h (both i (both j (both k (both l (both m z))))))))))))
-    ≡ both (a && b && c && d && e && f && g && h && i && j && k && l && m) z
-lined-up a b c d e f g h i j k l m z = simp (both-and, and-chain)
+lined-up : (a b c d e f g h i j k z : Bool)
+    → both a (both b (both c (both d (both e (both f (both g (both h (both i (both j (both k z))))))))))
+    ≡ both (a && b && c && d && e && f && g && h && i && j && k) z
+lined-up a b c d e f g h i j k z = simp (both-and, and-chain)
 
--- the flag that the code makes
-abbrev flag : List ℕ → Bool
-flag l =
+-- the flag that the code makes; a: what it was told of the activity
+abbrev flag : List ℕ → Bool → Bool
+flag l a =
     ltb (getD l 26 0) 2
     && ltb (getD l 27 0) 2
-    && ltb (getD l 28 0) 4
-    && (eqb (getD l 28 0) 2 || eqb (getD l 29 0) 0)
+    && a
     && ltb (getD l 30 0) connectionCount
-    && ltb (getD l 31 0) runningCount
     && ltb (getD l 32 0) 3
     && ltb (getD l 33 0) 2
     && ltb (getD l 34 0) 2
@@ -39,10 +37,10 @@ flag l =
     && ltb (getD l 37 0) 9
     && ltb (getD l 38 0) 8
 
-settled : (l : List ℕ) (r : Bool) → length l ≡ imageLength → flag l ≡ r
+settled : (l : List ℕ) (a r : Bool) → length l ≡ imageLength → a ≡ isActivity (getD l 28 0) (getD l 29 0) (getD l 31 0) → flag l a ≡ r
     → isImage l ≡ both r (isFifo (drop fifoPlace l))
 unfolding isImage
-settled l r h e = rw (eq-eqb _ _ h, ← e, either-or) (both-on _ ∙ lined-up _ _ _ _ _ _ _ _ _ _ _ _ _ _)
+settled l a r h k e = rw (eq-eqb _ _ h, ← e, k) (both-on _ ∙ lined-up _ _ _ _ _ _ _ _ _ _ _ _)
 
 returns : tie.Need-returns
 unfolding isImage both
@@ -53,6 +51,18 @@ shared-slice-read-ranges c = search needs
 
 shared-slice-read-ranges-2 : tie.Need-shared-slice-read-ranges-2
 shared-slice-read-ranges-2 c = search needs
+
+shared-slice-read-is-activity : tie.Need-shared-slice-read-is-activity
+shared-slice-read-is-activity c = search needs
+
+shared-slice-read-is-activity-2 : tie.Need-shared-slice-read-is-activity-2
+shared-slice-read-is-activity-2 c = search needs
+
+shared-slice-read-is-activity-3 : tie.Need-shared-slice-read-is-activity-3
+shared-slice-read-is-activity-3 c = search needs
+
+is-activity-requires : tie.Need-is-activity-requires
+is-activity-requires c κs = search needs
 
 shared-slice-read-ranges-3 : tie.Need-shared-slice-read-ranges-3
 shared-slice-read-ranges-3 c = search needs
@@ -78,18 +88,6 @@ shared-slice-read-ranges-9 c = search needs
 shared-slice-read-ranges-10 : tie.Need-shared-slice-read-ranges-10
 shared-slice-read-ranges-10 c = search needs
 
-shared-slice-read-ranges-11 : tie.Need-shared-slice-read-ranges-11
-shared-slice-read-ranges-11 c = search needs
-
-shared-slice-read-ranges-12 : tie.Need-shared-slice-read-ranges-12
-shared-slice-read-ranges-12 c = search needs
-
-shared-slice-read-ranges-13 : tie.Need-shared-slice-read-ranges-13
-shared-slice-read-ranges-13 c = search needs
-
-shared-slice-read-ranges-14 : tie.Need-shared-slice-read-ranges-14
-shared-slice-read-ranges-14 c = search needs
-
 sub-is-fifo : tie.Need-sub-is-fifo
 sub-is-fifo c = search needs
 
@@ -105,13 +103,17 @@ is-fifo-requires c κs = search needs
 returns-2 : tie.Need-returns-2
 unfolding both
 returns-2 c =
+    let l = c .before .before .before .before .before .before .before .before .before .before .before .before .before .before .before .before .before .before .before .args .image .now in
     let h = c .before .before .before .before .before .before .before .before .before .before .before .before .before .before .before .before .before .if1 .left in
-    c .is-fifo .ensures ∙ valid-end (c .before .before .before .before .before .before .before .before .before .before .before .before .before .before .before .before .before .before .before .args .image .now) h
-    ∙ sym (settled (c .before .before .before .before .before .before .before .before .before .before .before .before .before .before .before .before .before .before .before .args .image .now) true h (c .before .before .if2 .taken))
+    c .is-fifo .ensures ∙ valid-end l h
+    ∙ sym (settled l _ true h (c .before .before .before .before .before .before .before .before .before .before .before .is-activity .ensures) (c .before .before .if2 .taken))
 
 returns-3 : tie.Need-returns-3
 unfolding both
-returns-3 c = sym (settled (c .before .before .before .before .before .before .before .before .before .before .before .before .before .before .before .before .before .args .image .now) false (c .before .before .before .before .before .before .before .before .before .before .before .before .before .before .before .if1 .left) (c .if2 .left))
+returns-3 c =
+    let l = c .before .before .before .before .before .before .before .before .before .before .before .before .before .before .before .before .before .args .image .now in
+    let h = c .before .before .before .before .before .before .before .before .before .before .before .before .before .before .before .if1 .left in
+    sym (settled l _ false h (c .before .before .before .before .before .before .before .before .before .is-activity .ensures) (c .if2 .left))
 
 pub has-form-spec : {M : Type 1} → statement M
 has-form-spec =
@@ -120,6 +122,10 @@ has-form-spec =
     returns
     shared-slice-read-ranges
     shared-slice-read-ranges-2
+    shared-slice-read-is-activity
+    shared-slice-read-is-activity-2
+    shared-slice-read-is-activity-3
+    is-activity-requires
     shared-slice-read-ranges-3
     shared-slice-read-ranges-4
     shared-slice-read-ranges-5
@@ -128,10 +134,6 @@ has-form-spec =
     shared-slice-read-ranges-8
     shared-slice-read-ranges-9
     shared-slice-read-ranges-10
-    shared-slice-read-ranges-11
-    shared-slice-read-ranges-12
-    shared-slice-read-ranges-13
-    shared-slice-read-ranges-14
     sub-is-fifo
     part-is-fifo-start
     part-is-fifo-end

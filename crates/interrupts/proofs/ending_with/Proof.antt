@@ -10,12 +10,18 @@ use Rattle.interrupts.proofs.ending_with.Tie as tie
 bytes-unread-requires : tie.Need-bytes-unread-requires
 bytes-unread-requires c κs = search needs
 
-pending-requires : tie.Need-pending-requires
-pending-requires c κs = search needs
+activity-requires : tie.Need-activity-requires
+activity-requires c κs = search needs
+
+ends-requires : tie.Need-ends-requires
+ends-requires c κs = search needs
+
+activity-requires-2 : tie.Need-activity-requires-2
+activity-requires-2 c κs = search needs
 
 returns : tie.Need-returns
 unfolding endingWith pick
-returns c = simp (sym (c .before .before .bytes-unread .ensures) ∙ (c .before .if1 .taken), c .pending .ensures)
+returns c = simp (sym (c .before .before .before .before .bytes-unread .ensures) ∙ (c .before .before .before .if1 .taken), c .before .before .activity .ensures, c .before .ends .ensures, c .activity2 .ensures)
 
 raise-requires : tie.Need-raise-requires
 raise-requires c κs = search needs
@@ -26,4 +32,12 @@ returns-2 c = simp (sym (c .before .before .bytes-unread .ensures) ∙ (c .befor
 
 pub ending-with-spec : {M : Type 1} → statement M
 ending-with-spec =
-    tie.close (tie.spec bytes-unread-requires pending-requires returns raise-requires returns-2)
+    tie.close
+    (tie.spec
+    bytes-unread-requires
+    activity-requires
+    ends-requires
+    activity-requires-2
+    returns
+    raise-requires
+    returns-2)

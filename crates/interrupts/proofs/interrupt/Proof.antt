@@ -7,11 +7,11 @@ use Rattle.interrupts.proofs.interrupt.Tie as tie
 code-requires : tie.Need-code-requires
 code-requires c κs = search needs
 
-pending-requires : tie.Need-pending-requires
-pending-requires c κs = search needs
+activity-requires : tie.Need-activity-requires
+activity-requires c κs = search needs
 
 returns : tie.Need-returns
-returns c = simp (c .before .code .ensures, c .pending .ensures)
+returns c = simp (c .before .code .ensures, c .activity .ensures)
 
 pub interrupt-spec : {M : Type 1} → statement M
-interrupt-spec = tie.close (tie.spec code-requires pending-requires returns)
+interrupt-spec = tie.close (tie.spec code-requires activity-requires returns)

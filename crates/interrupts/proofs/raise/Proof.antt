@@ -8,16 +8,12 @@ use Rattle.interrupts.proofs.raise.Tie as tie
 outgoing-dropped-requires : tie.Need-outgoing-dropped-requires
 outgoing-dropped-requires c κs = search needs
 
-running-requires : tie.Need-running-requires
-running-requires c κs = search needs
-
 interrupt-requires : tie.Need-interrupt-requires
 interrupt-requires c κs = search needs
 
 returns : tie.Need-returns
 unfolding raise
-returns c = simp (c .before .before .outgoing-dropped .ensures, c .before .running .ensures, c .interrupt .ensures)
+returns c = simp (c .before .outgoing-dropped .ensures, c .interrupt .ensures)
 
 pub raise-spec : {M : Type 1} → statement M
-raise-spec =
-    tie.close (tie.spec outgoing-dropped-requires running-requires interrupt-requires returns)
+raise-spec = tie.close (tie.spec outgoing-dropped-requires interrupt-requires returns)

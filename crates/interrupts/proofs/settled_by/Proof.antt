@@ -11,17 +11,20 @@ enum-told c = search needs
 enum-told-2 : tie.Need-enum-told-2
 enum-told-2 c = search needs
 
-enum-known-p : tie.Need-enum-known-p
-enum-known-p c = search needs
+enum-told-3 : tie.Need-enum-told-3
+enum-told-3 c = search needs
+
+enum-known-a : tie.Need-enum-known-a
+enum-known-a c = search needs
 
 raise-requires : tie.Need-raise-requires
 raise-requires c κs = search needs
 
-enum-told-3 : tie.Need-enum-told-3
-enum-told-3 c = search needs
+enum-known-a-2 : tie.Need-enum-known-a-2
+enum-known-a-2 c = search needs
 
-pending-requires : tie.Need-pending-requires
-pending-requires c κs = search needs
+activity-requires : tie.Need-activity-requires
+activity-requires c κs = search needs
 
 connection-requires : tie.Need-connection-requires
 connection-requires c κs = search needs
@@ -36,11 +39,15 @@ returns-2 c = simp (c .enum-told2 .given .1)
 
 returns-3 : tie.Need-returns-3
 unfolding settledBy
-returns-3 c = simp (c .before .before .p .given .1, c .raise .ensures)
+returns-3 c = simp (c .enum-told3 .given .1)
 
 returns-4 : tie.Need-returns-4
 unfolding settledBy
-returns-4 c = simp (c .before .before .enum-told3 .given .1, c .before .pending .ensures, c .connection .ensures)
+returns-4 c = simp (c .before .before .a .given .1, c .raise .ensures)
+
+returns-5 : tie.Need-returns-5
+unfolding settledBy
+returns-5 c = simp (c .before .before .before .a2 .given .1, c .before .activity .ensures, c .connection .ensures)
 
 pub settled-by-spec : {M : Type 1} → statement M
 settled-by-spec =
@@ -48,12 +55,14 @@ settled-by-spec =
     (tie.spec
     enum-told
     enum-told-2
-    enum-known-p
-    raise-requires
     enum-told-3
-    pending-requires
+    enum-known-a
+    raise-requires
+    enum-known-a-2
+    activity-requires
     connection-requires
     returns
     returns-2
     returns-3
-    returns-4)
+    returns-4
+    returns-5)

@@ -21,4 +21,5 @@ unfolding both
 returns-2 c = simp (sym (c .before .is-transfer-info .ensures) ∙ (c .if1 .left))
 
 pub transfer-info-in-spec : {M : Type 1} → statement M
-transfer-info-in-spec = tie.close (tie.spec is-transfer-info-requires is-reported-requires returns returns-2)
+transfer-info-in-spec =
+    tie.close (tie.spec is-transfer-info-requires is-reported-requires returns returns-2)

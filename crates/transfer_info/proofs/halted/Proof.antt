@@ -1,22 +1,11 @@
 -- `transfer_info::halted` meets its contract: each way through the code is the definition's own way.
 -- Generated: tools/write-proof transfer_info halted halted unlessInterrupt pick
-use mathlib.Core.Path.{sym, _∙_}
 use Rattle.chip.specs.TransferInfo.{halted}
 use Rattle.chip.specs.Interrupts.{unlessInterrupt}
 use Rattle.chip.specs.Choice.{pick}
 use borrow.Author.Needs.{needs}
 use Rattle.transfer_info.proofs.halted.Statement.{statement}
 use Rattle.transfer_info.proofs.halted.Tie as tie
-
-interrupted-requires : tie.Need-interrupted-requires
-interrupted-requires c κs = search needs
-
-held-requires : tie.Need-held-requires
-held-requires c κs = search needs
-
-returns : tie.Need-returns
-unfolding halted unlessInterrupt pick
-returns c = simp (sym (c .before .before .interrupted .ensures) ∙ (c .before .if1 .taken), c .held .ensures)
 
 pe-requires : tie.Need-pe-requires
 pe-requires c κs = search needs
@@ -33,20 +22,17 @@ ending-with-requires c κs = search needs
 reports-requires : tie.Need-reports-requires
 reports-requires c κs = search needs
 
-returns-2 : tie.Need-returns-2
+returns : tie.Need-returns
 unfolding halted unlessInterrupt pick
-returns-2 c = simp (sym (c .before .before .before .before .before .before .interrupted .ensures) ∙ (c .before .before .before .before .before .if1 .left), c .before .before .before .before .pe .ensures, c .before .before .before .ack .ensures, c .before .before .reported .ensures, c .before .ending-with .ensures, c .reports .ensures)
+returns c = simp (c .before .before .before .before .pe .ensures, c .before .before .before .ack .ensures, c .before .before .reported .ensures, c .before .ending-with .ensures, c .reports .ensures)
 
 pub halted-spec : {M : Type 1} → statement M
 halted-spec =
     tie.close
     (tie.spec
-    interrupted-requires
-    held-requires
-    returns
     pe-requires
     ack-requires
     reported-requires
     ending-with-requires
     reports-requires
-    returns-2)
+    returns)

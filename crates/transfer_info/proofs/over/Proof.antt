@@ -1,22 +1,11 @@
 -- `transfer_info::over` meets its contract: each way through the code is the definition's own way.
 -- Generated: tools/write-proof transfer_info over transferInfoOver unlessInterrupt pick
-use mathlib.Core.Path.{sym, _∙_}
 use Rattle.chip.specs.TransferInfo.{transferInfoOver}
 use Rattle.chip.specs.Interrupts.{unlessInterrupt}
 use Rattle.chip.specs.Choice.{pick}
 use borrow.Author.Needs.{needs}
 use Rattle.transfer_info.proofs.over.Statement.{statement}
 use Rattle.transfer_info.proofs.over.Tie as tie
-
-interrupted-requires : tie.Need-interrupted-requires
-interrupted-requires c κs = search needs
-
-held-requires : tie.Need-held-requires
-held-requires c κs = search needs
-
-returns : tie.Need-returns
-unfolding transferInfoOver unlessInterrupt pick
-returns c = simp (sym (c .before .before .interrupted .ensures) ∙ (c .before .if1 .taken), c .held .ensures)
 
 over-code-requires : tie.Need-over-code-requires
 over-code-requires c κs = search needs
@@ -30,19 +19,11 @@ ending-with-requires c κs = search needs
 reports-requires : tie.Need-reports-requires
 reports-requires c κs = search needs
 
-returns-2 : tie.Need-returns-2
+returns : tie.Need-returns
 unfolding transferInfoOver unlessInterrupt pick
-returns-2 c = simp (sym (c .before .before .before .before .before .interrupted .ensures) ∙ (c .before .before .before .before .if1 .left), c .before .before .before .over-code .ensures, c .before .before .reported .ensures, c .before .ending-with .ensures, c .reports .ensures)
+returns c = simp (c .before .before .before .over-code .ensures, c .before .before .reported .ensures, c .before .ending-with .ensures, c .reports .ensures)
 
 pub over-spec : {M : Type 1} → statement M
 over-spec =
     tie.close
-    (tie.spec
-    interrupted-requires
-    held-requires
-    returns
-    over-code-requires
-    reported-requires
-    ending-with-requires
-    reports-requires
-    returns-2)
+    (tie.spec over-code-requires reported-requires ending-with-requires reports-requires returns)

@@ -14,16 +14,6 @@ taken-in-requires c κs = search needs
 is-last-message-in-requires : tie.Need-is-last-message-in-requires
 is-last-message-in-requires c κs = search needs
 
-interrupted-requires : tie.Need-interrupted-requires
-interrupted-requires c κs = search needs
-
-held-requires : tie.Need-held-requires
-held-requires c κs = search needs
-
-returns : tie.Need-returns
-unfolding transferInfoTaken pick unlessInterrupt
-returns c = simp (sym (c .before .before .before .before .is-last-message-in .ensures) ∙ (c .before .before .before .if1 .taken), sym (c .before .before .interrupted .ensures) ∙ (c .before .if2 .taken), c .held .ensures)
-
 ack-requires : tie.Need-ack-requires
 ack-requires c κs = search needs
 
@@ -36,16 +26,16 @@ ending-with-requires c κs = search needs
 done-requires : tie.Need-done-requires
 done-requires c κs = search needs
 
-returns-2 : tie.Need-returns-2
+returns : tie.Need-returns
 unfolding transferInfoTaken pick unlessInterrupt
-returns-2 c = simp (c .before .before .before .before .before .before .before .before .taken-in .ensures, sym (c .before .before .before .before .before .before .before .is-last-message-in .ensures) ∙ (c .before .before .before .before .before .before .if1 .taken), sym (c .before .before .before .before .before .interrupted .ensures) ∙ (c .before .before .before .before .if2 .left), c .before .before .before .ack .ensures, c .before .before .reported .ensures, c .before .ending-with .ensures, c .done .ensures)
+returns c = simp (c .before .before .before .before .before .before .taken-in .ensures, sym (c .before .before .before .before .before .is-last-message-in .ensures) ∙ (c .before .before .before .before .if1 .taken), c .before .before .before .ack .ensures, c .before .before .reported .ensures, c .before .ending-with .ensures, c .done .ensures)
 
 done-requires-2 : tie.Need-done-requires-2
 done-requires-2 c κs = search needs
 
-returns-3 : tie.Need-returns-3
+returns-2 : tie.Need-returns-2
 unfolding transferInfoTaken pick unlessInterrupt
-returns-3 c = simp (c .before .before .before .taken-in .ensures, sym (c .before .before .is-last-message-in .ensures) ∙ (c .before .if1 .left), c .done2 .ensures)
+returns-2 c = simp (c .before .before .before .taken-in .ensures, sym (c .before .before .is-last-message-in .ensures) ∙ (c .before .if1 .left), c .done2 .ensures)
 
 pub taken-spec : {M : Type 1} → statement M
 taken-spec =
@@ -53,13 +43,10 @@ taken-spec =
     (tie.spec
     taken-in-requires
     is-last-message-in-requires
-    interrupted-requires
-    held-requires
-    returns
     ack-requires
     reported-requires
     ending-with-requires
     done-requires
-    returns-2
+    returns
     done-requires-2
-    returns-3)
+    returns-2)

@@ -7,29 +7,24 @@ use borrow.Author.Needs.{needs}
 use Rattle.bus.proofs.answer.answered.Statement.{statement}
 use Rattle.bus.proofs.answer.answered.Tie as tie
 
-is-selecting-requires : tie.Need-is-selecting-requires
-is-selecting-requires c κs = search needs
+selects-requires : tie.Need-selects-requires
+selects-requires c κs = search needs
 
 answered-selecting-requires : tie.Need-answered-selecting-requires
 answered-selecting-requires c κs = search needs
 
 returns : tie.Need-returns
 unfolding answered pick
-returns c = simp (sym (c .before .before .is-selecting .ensures) ∙ (c .before .if1 .taken), c .answered-selecting .ensures)
+returns c = simp (sym (c .before .before .selects .ensures) ∙ (c .before .if1 .taken), c .answered-selecting .ensures)
 
 out-of-place-requires : tie.Need-out-of-place-requires
 out-of-place-requires c κs = search needs
 
 returns-2 : tie.Need-returns-2
 unfolding answered pick
-returns-2 c = simp (sym (c .before .before .is-selecting .ensures) ∙ (c .before .if1 .left), c .out-of-place .ensures)
+returns-2 c = simp (sym (c .before .before .selects .ensures) ∙ (c .before .if1 .left), c .out-of-place .ensures)
 
 pub answered-spec : {M : Type 1} → statement M
 answered-spec =
     tie.close
-    (tie.spec
-    is-selecting-requires
-    answered-selecting-requires
-    returns
-    out-of-place-requires
-    returns-2)
+    (tie.spec selects-requires answered-selecting-requires returns out-of-place-requires returns-2)

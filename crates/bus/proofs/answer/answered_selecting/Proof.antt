@@ -8,16 +8,6 @@ use borrow.Author.Needs.{needs}
 use Rattle.bus.proofs.answer.answered_selecting.Statement.{statement}
 use Rattle.bus.proofs.answer.answered_selecting.Tie as tie
 
-in-ending-requires : tie.Need-in-ending-requires
-in-ending-requires c κs = search needs
-
-held-requires : tie.Need-held-requires
-held-requires c κs = search needs
-
-returns : tie.Need-returns
-unfolding answeredSelecting pick unlessInterrupt
-returns c = simp (sym (c .before .before .in-ending .ensures) ∙ (c .before .if1 .taken), c .held .ensures)
-
 answered-state-requires : tie.Need-answered-state-requires
 answered-state-requires c κs = search needs
 
@@ -30,19 +20,9 @@ phase-requires c κs = search needs
 done-requires : tie.Need-done-requires
 done-requires c κs = search needs
 
-returns-2 : tie.Need-returns-2
+returns : tie.Need-returns
 unfolding answeredSelecting pick unlessInterrupt
-returns-2 c = simp (sym (c .before .before .before .before .before .before .in-ending .ensures) ∙ (c .before .before .before .before .before .if1 .left), c .before .before .before .before .answered-state .ensures, sym (c .before .before .before .is-select-and-transfer .ensures) ∙ (c .before .before .if2 .taken), c .before .phase .ensures, c .done .ensures)
-
-interrupted-requires : tie.Need-interrupted-requires
-interrupted-requires c κs = search needs
-
-held-requires-2 : tie.Need-held-requires-2
-held-requires-2 c κs = search needs
-
-returns-3 : tie.Need-returns-3
-unfolding answeredSelecting pick unlessInterrupt
-returns-3 c = simp (sym (c .before .before .before .before .before .before .before .in-ending .ensures) ∙ (c .before .before .before .before .before .before .if1 .left), sym (c .before .before .before .before .is-select-and-transfer .ensures) ∙ (c .before .before .before .if2 .left), sym (c .before .before .interrupted .ensures) ∙ (c .before .if3 .taken), c .held2 .ensures)
+returns c = simp (c .before .before .before .before .answered-state .ensures, sym (c .before .before .before .is-select-and-transfer .ensures) ∙ (c .before .before .if1 .taken), c .before .phase .ensures, c .done .ensures)
 
 raise-requires : tie.Need-raise-requires
 raise-requires c κs = search needs
@@ -50,25 +30,19 @@ raise-requires c κs = search needs
 done-requires-2 : tie.Need-done-requires-2
 done-requires-2 c κs = search needs
 
-returns-4 : tie.Need-returns-4
+returns-2 : tie.Need-returns-2
 unfolding answeredSelecting pick unlessInterrupt
-returns-4 c = simp (sym (c .before .before .before .before .before .before .before .before .in-ending .ensures) ∙ (c .before .before .before .before .before .before .before .if1 .left), c .before .before .before .before .before .before .answered-state .ensures, sym (c .before .before .before .before .before .is-select-and-transfer .ensures) ∙ (c .before .before .before .before .if2 .left), sym (c .before .before .before .interrupted .ensures) ∙ (c .before .before .if3 .left), c .before .raise .ensures, c .done2 .ensures)
+returns-2 c = simp (c .before .before .before .before .answered-state .ensures, sym (c .before .before .before .is-select-and-transfer .ensures) ∙ (c .before .before .if1 .left), c .before .raise .ensures, c .done2 .ensures)
 
 pub answered-selecting-spec : {M : Type 1} → statement M
 answered-selecting-spec =
     tie.close
     (tie.spec
-    in-ending-requires
-    held-requires
-    returns
     answered-state-requires
     is-select-and-transfer-requires
     phase-requires
     done-requires
-    returns-2
-    interrupted-requires
-    held-requires-2
-    returns-3
+    returns
     raise-requires
     done-requires-2
-    returns-4)
+    returns-2)

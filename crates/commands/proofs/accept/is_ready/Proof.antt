@@ -7,12 +7,12 @@ use borrow.Author.Needs.{needs}
 use Rattle.commands.proofs.accept.is_ready.Statement.{statement}
 use Rattle.commands.proofs.accept.is_ready.Tie as tie
 
-is-abortable-requires : tie.Need-is-abortable-requires
-is-abortable-requires c κs = search needs
+goes-on-requires : tie.Need-goes-on-requires
+goes-on-requires c κs = search needs
 
 returns : tie.Need-returns
 unfolding isReady pick both either
-returns c = simp (eq-eqb _ _ (c .before .if1 .taken), c .is-abortable .ensures)
+returns c = simp (eq-eqb _ _ (c .before .if1 .taken), c .goes-on .ensures)
 
 is-transferable-requires : tie.Need-is-transferable-requires
 is-transferable-requires c κs = search needs
@@ -43,7 +43,7 @@ pub is-ready-spec : {M : Type 1} → statement M
 is-ready-spec =
     tie.close
     (tie.spec
-    is-abortable-requires
+    goes-on-requires
     returns
     is-transferable-requires
     returns-2

@@ -27,9 +27,4 @@ returns-2 c = simp (sym (c .before .before .is-connected .ensures) ∙ (c .befor
 pub is-transferable-spec : {M : Type 1} → statement M
 is-transferable-spec =
     tie.close
-    (tie.spec
-    is-connected-requires
-    is-resumable-requires
-    returns
-    has-size-requires
-    returns-2)
+    (tie.spec is-connected-requires is-resumable-requires returns has-size-requires returns-2)

@@ -14,11 +14,8 @@ fifo-requires c κs = search needs
 direction-requires : tie.Need-direction-requires
 direction-requires c κs = search needs
 
-running-requires : tie.Need-running-requires
-running-requires c κs = search needs
-
-pending-requires : tie.Need-pending-requires
-pending-requires c κs = search needs
+activity-requires : tie.Need-activity-requires
+activity-requires c κs = search needs
 
 ack-requires : tie.Need-ack-requires
 ack-requires c κs = search needs
@@ -31,7 +28,7 @@ connection-requires c κs = search needs
 
 returns : tie.Need-returns
 unfolding disconnected
-returns c = simp (c .before .before .before .before .before .before .before .empty .ensures, c .before .before .before .before .before .before .fifo .ensures, c .before .before .before .before .before .direction .ensures, c .before .before .before .before .running .ensures, c .before .before .before .pending .ensures, c .before .before .ack .ensures, c .before .atn .ensures, c .connection .ensures)
+returns c = simp (c .before .before .before .before .before .before .empty .ensures, c .before .before .before .before .before .fifo .ensures, c .before .before .before .before .direction .ensures, c .before .before .before .activity .ensures, c .before .before .ack .ensures, c .before .atn .ensures, c .connection .ensures)
 
 pub disconnected-spec : {M : Type 1} → statement M
 disconnected-spec =
@@ -40,8 +37,7 @@ disconnected-spec =
     empty-requires
     fifo-requires
     direction-requires
-    running-requires
-    pending-requires
+    activity-requires
     ack-requires
     atn-requires
     connection-requires

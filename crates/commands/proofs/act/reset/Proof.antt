@@ -11,8 +11,8 @@ cleared-requires c κs = search needs
 empty-requires : tie.Need-empty-requires
 empty-requires c κs = search needs
 
-nothing-runs-requires : tie.Need-nothing-runs-requires
-nothing-runs-requires c κs = search needs
+nothing-moves-requires : tie.Need-nothing-moves-requires
+nothing-moves-requires c κs = search needs
 
 own-identity-requires : tie.Need-own-identity-requires
 own-identity-requires c κs = search needs
@@ -22,7 +22,7 @@ apart-requires c κs = search needs
 
 returns : tie.Need-returns
 unfolding reset resetCode
-returns c = simp (c .before .before .before .before .cleared .ensures, c .before .before .before .empty .ensures, c .before .before .nothing-runs .ensures, c .before .own-identity .ensures, c .apart .ensures)
+returns c = simp (c .before .before .before .before .cleared .ensures, c .before .before .before .empty .ensures, c .before .before .nothing-moves .ensures, c .before .own-identity .ensures, c .apart .ensures)
 
 pub reset-spec : {M : Type 1} → statement M
 reset-spec =
@@ -30,7 +30,7 @@ reset-spec =
     (tie.spec
     cleared-requires
     empty-requires
-    nothing-runs-requires
+    nothing-moves-requires
     own-identity-requires
     apart-requires
     returns)

@@ -11,12 +11,12 @@ elapsed-requires c κs = search needs
 connection-requires : tie.Need-connection-requires
 connection-requires c κs = search needs
 
-running-requires : tie.Need-running-requires
-running-requires c κs = search needs
+activity-requires : tie.Need-activity-requires
+activity-requires c κs = search needs
 
 returns : tie.Need-returns
 unfolding selecting
-returns c = simp (c .before .before .elapsed .ensures, c .before .connection .ensures, c .running .ensures)
+returns c = simp (c .before .before .elapsed .ensures, c .before .connection .ensures, c .activity .ensures)
 
 pub selecting-spec : {M : Type 1} → statement M
-selecting-spec = tie.close (tie.spec elapsed-requires connection-requires running-requires returns)
+selecting-spec = tie.close (tie.spec elapsed-requires connection-requires activity-requires returns)

@@ -17,12 +17,12 @@ loaded-for-transfer-info-requires c κs = search needs
 direction-requires : tie.Need-direction-requires
 direction-requires c κs = search needs
 
-running-requires : tie.Need-running-requires
-running-requires c κs = search needs
+activity-requires : tie.Need-activity-requires
+activity-requires c κs = search needs
 
 returns : tie.Need-returns
 unfolding transferInfoBegun
-returns c = simp (c .before .before .before .before .reported .ensures, c .before .before .before .way-of .ensures, c .before .before .loaded-for-transfer-info .ensures, c .before .direction .ensures, c .running .ensures)
+returns c = simp (c .before .before .before .before .reported .ensures, c .before .before .before .way-of .ensures, c .before .before .loaded-for-transfer-info .ensures, c .before .direction .ensures, c .activity .ensures)
 
 pub transfer-info-begun-spec : {M : Type 1} → statement M
 transfer-info-begun-spec =
@@ -32,5 +32,5 @@ transfer-info-begun-spec =
     way-of-requires
     loaded-for-transfer-info-requires
     direction-requires
-    running-requires
+    activity-requires
     returns)

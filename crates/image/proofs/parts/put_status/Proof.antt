@@ -27,14 +27,14 @@ bit-of-requires-2 c κs = search needs
 slice-write-image-5 : tie.Need-slice-write-image-5
 slice-write-image-5 c = simp length-set (omega arith)
 
-pending-byte-requires : tie.Need-pending-byte-requires
-pending-byte-requires c κs = search needs
+pending-number-requires : tie.Need-pending-number-requires
+pending-number-requires c κs = search needs
 
 slice-write-image-6 : tie.Need-slice-write-image-6
 slice-write-image-6 c = simp length-set (omega arith)
 
-ending-byte-requires : tie.Need-ending-byte-requires
-ending-byte-requires c κs = search needs
+code-to-come-requires : tie.Need-code-to-come-requires
+code-to-come-requires c κs = search needs
 
 slice-write-image-7 : tie.Need-slice-write-image-7
 slice-write-image-7 c = simp length-set (omega arith)
@@ -48,8 +48,8 @@ returns c =
     simp (
       c .before .before .before .bit-of .ensures,
       c .before .before .bit-of2 .ensures,
-      c .before .pending-byte .ensures,
-      c .ending-byte .ensures,
+      c .before .pending-number .ensures,
+      c .code-to-come .ensures,
     )
 
 pub put-status-spec : {M : Type 1} → statement M
@@ -63,9 +63,9 @@ put-status-spec =
     slice-write-image-4
     bit-of-requires-2
     slice-write-image-5
-    pending-byte-requires
+    pending-number-requires
     slice-write-image-6
-    ending-byte-requires
+    code-to-come-requires
     slice-write-image-7
     same-length
     returns)

@@ -19,15 +19,19 @@ transfer-of-requires c κs = search needs
 wire-of-requires : tie.Need-wire-of-requires
 wire-of-requires c κs = search needs
 
+activity-of-requires : tie.Need-activity-of-requires
+activity-of-requires c κs = search needs
+
 returns : tie.Need-returns
 unfolding stateOf
 returns c =
     simp (
-      c .before .before .before .before .registers-of .ensures,
-      c .before .before .before .status-of .ensures,
-      c .before .before .fifo-of .ensures,
-      c .before .transfer-of .ensures,
-      c .wire-of .ensures,
+      c .before .before .before .before .before .registers-of .ensures,
+      c .before .before .before .before .status-of .ensures,
+      c .before .before .before .fifo-of .ensures,
+      c .before .before .transfer-of .ensures,
+      c .before .wire-of .ensures,
+      c .activity-of .ensures,
     )
 
 pub state-of-spec : {M : Type 1} → statement M
@@ -39,4 +43,5 @@ state-of-spec =
     fifo-of-requires
     transfer-of-requires
     wire-of-requires
+    activity-of-requires
     returns)

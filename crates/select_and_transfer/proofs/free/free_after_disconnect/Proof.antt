@@ -11,43 +11,30 @@ use Rattle.select_and_transfer.proofs.free.free_after_disconnect.Tie as
 idi-requires : tie.Need-idi-requires
 idi-requires c κs = search needs
 
-interrupted-requires : tie.Need-interrupted-requires
-interrupted-requires c κs = search needs
-
-held-requires : tie.Need-held-requires
-held-requires c κs = search needs
-
-returns : tie.Need-returns
-unfolding freeAfterDisconnect pick unlessInterrupt
-returns c = simp (sym (c .before .before .before .before .idi .ensures) ∙ (c .before .before .before .if1 .taken), sym (c .before .before .interrupted .ensures) ∙ (c .before .if2 .taken), c .held .ensures)
-
 ending-with-requires : tie.Need-ending-with-requires
 ending-with-requires c κs = search needs
 
 done-requires : tie.Need-done-requires
 done-requires c κs = search needs
 
-returns-2 : tie.Need-returns-2
+returns : tie.Need-returns
 unfolding freeAfterDisconnect pick unlessInterrupt
-returns-2 c = simp (sym (c .before .before .before .before .before .idi .ensures) ∙ (c .before .before .before .before .if1 .taken), sym (c .before .before .before .interrupted .ensures) ∙ (c .before .before .if2 .left), c .before .ending-with .ensures, c .done .ensures)
+returns c = simp (sym (c .before .before .before .idi .ensures) ∙ (c .before .before .if1 .taken), c .before .ending-with .ensures, c .done .ensures)
 
 free-to-wait-requires : tie.Need-free-to-wait-requires
 free-to-wait-requires c κs = search needs
 
-returns-3 : tie.Need-returns-3
+returns-2 : tie.Need-returns-2
 unfolding freeAfterDisconnect pick unlessInterrupt
-returns-3 c = simp (sym (c .before .before .idi .ensures) ∙ (c .before .if1 .left), c .free-to-wait .ensures)
+returns-2 c = simp (sym (c .before .before .idi .ensures) ∙ (c .before .if1 .left), c .free-to-wait .ensures)
 
 pub free-after-disconnect-spec : {M : Type 1} → statement M
 free-after-disconnect-spec =
     tie.close
     (tie.spec
     idi-requires
-    interrupted-requires
-    held-requires
-    returns
     ending-with-requires
     done-requires
-    returns-2
+    returns
     free-to-wait-requires
-    returns-3)
+    returns-2)

@@ -1,6 +1,5 @@
 -- `select_and_transfer::free::freed` meets its contract: each way through the code is the definition's own way.
 -- Generated: tools/write-proof select_and_transfer free/freed selectAndTransferFree pick unlessInterrupt
-use mathlib.Core.Path.{sym, _∙_}
 use borrow.Author.Tests.{eq-eqb, ne-eqb}
 use Rattle.chip.specs.SelectAndTransfer.{selectAndTransferFree}
 use Rattle.chip.specs.Choice.{pick}
@@ -19,25 +18,15 @@ returns : tie.Need-returns
 unfolding selectAndTransferFree pick unlessInterrupt
 returns c = simp (eq-eqb _ _ (c .before .before .if1 .taken), c .before .phase .ensures, c .free-after-disconnect .ensures)
 
-interrupted-requires : tie.Need-interrupted-requires
-interrupted-requires c κs = search needs
-
-held-requires : tie.Need-held-requires
-held-requires c κs = search needs
-
-returns-2 : tie.Need-returns-2
-unfolding selectAndTransferFree pick unlessInterrupt
-returns-2 c = simp (ne-eqb _ _ (c .before .before .before .if1 .left), sym (c .before .before .interrupted .ensures) ∙ (c .before .if2 .taken), c .held .ensures)
-
 ending-with-requires : tie.Need-ending-with-requires
 ending-with-requires c κs = search needs
 
 done-requires : tie.Need-done-requires
 done-requires c κs = search needs
 
-returns-3 : tie.Need-returns-3
+returns-2 : tie.Need-returns-2
 unfolding selectAndTransferFree pick unlessInterrupt
-returns-3 c = simp (ne-eqb _ _ (c .before .before .before .before .if1 .left), sym (c .before .before .before .interrupted .ensures) ∙ (c .before .before .if2 .left), c .before .ending-with .ensures, c .done .ensures)
+returns-2 c = simp (ne-eqb _ _ (c .before .before .if1 .left), c .before .ending-with .ensures, c .done .ensures)
 
 pub freed-spec : {M : Type 1} → statement M
 freed-spec =
@@ -46,9 +35,6 @@ freed-spec =
     phase-requires
     free-after-disconnect-requires
     returns
-    interrupted-requires
-    held-requires
-    returns-2
     ending-with-requires
     done-requires
-    returns-3)
+    returns-2)

@@ -10,8 +10,8 @@ use Rattle.select_and_transfer.proofs.resume.resumed.Tie as tie
 loaded-requires : tie.Need-loaded-requires
 loaded-requires c κs = search needs
 
-running-requires : tie.Need-running-requires
-running-requires c κs = search needs
+activity-requires : tie.Need-activity-requires
+activity-requires c κs = search needs
 
 ack-after-resume-requires : tie.Need-ack-after-resume-requires
 ack-after-resume-requires c κs = search needs
@@ -27,18 +27,18 @@ ending-with-requires c κs = search needs
 
 returns : tie.Need-returns
 unfolding resumed pick
-returns c = simp (c .before .before .before .before .before .before .before .loaded .ensures, c .before .before .before .before .before .before .running .ensures, c .before .before .before .before .before .ack-after-resume .ensures, c .before .before .before .before .ack .ensures, eq-eqb _ _ (c .before .before .if1 .taken), c .before .reported .ensures, c .ending-with .ensures)
+returns c = simp (c .before .before .before .before .before .before .before .loaded .ensures, c .before .before .before .before .before .before .activity .ensures, c .before .before .before .before .before .ack-after-resume .ensures, c .before .before .before .before .ack .ensures, eq-eqb _ _ (c .before .before .if1 .taken), c .before .reported .ensures, c .ending-with .ensures)
 
 returns-2 : tie.Need-returns-2
 unfolding resumed pick
-returns-2 c = simp (c .before .before .before .before .before .loaded .ensures, c .before .before .before .before .running .ensures, c .before .before .before .ack-after-resume .ensures, c .before .before .ack .ensures, ne-eqb _ _ (c .if1 .left))
+returns-2 c = simp (c .before .before .before .before .before .loaded .ensures, c .before .before .before .before .activity .ensures, c .before .before .before .ack-after-resume .ensures, c .before .before .ack .ensures, ne-eqb _ _ (c .if1 .left))
 
 pub resumed-spec : {M : Type 1} → statement M
 resumed-spec =
     tie.close
     (tie.spec
     loaded-requires
-    running-requires
+    activity-requires
     ack-after-resume-requires
     ack-requires
     reported-requires

@@ -27,9 +27,4 @@ returns-2 c = simp (sym (c .before .before .is-complete .ensures) ∙ (c .before
 pub complete-spec : {M : Type 1} → statement M
 complete-spec =
     tie.close
-    (tie.spec
-    is-complete-requires
-    completed-requires
-    returns
-    unexpected-requires
-    returns-2)
+    (tie.spec is-complete-requires completed-requires returns unexpected-requires returns-2)

@@ -31,10 +31,4 @@ returns-3 c = simp (ne-eqb _ _ (c .before .before .if1 .left), ne-eqb _ _ (c .be
 pub message-spec : {M : Type 1} → statement M
 message-spec =
     tie.close
-    (tie.spec
-    save-requires
-    returns
-    disconnect-requires
-    returns-2
-    unexpected-requires
-    returns-3)
+    (tie.spec save-requires returns disconnect-requires returns-2 unexpected-requires returns-3)

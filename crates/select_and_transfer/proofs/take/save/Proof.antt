@@ -19,16 +19,6 @@ returns : tie.Need-returns
 unfolding takeSave unlessHalted unlessInterrupt pick
 returns c = simp (sym (c .before .before .halts .ensures) ∙ (c .before .if1 .taken), c .halted .ensures)
 
-interrupted-requires : tie.Need-interrupted-requires
-interrupted-requires c κs = search needs
-
-held-requires : tie.Need-held-requires
-held-requires c κs = search needs
-
-returns-2 : tie.Need-returns-2
-unfolding takeSave unlessHalted unlessInterrupt pick
-returns-2 c = simp (sym (c .before .before .before .before .halts .ensures) ∙ (c .before .before .before .if1 .left), sym (c .before .before .interrupted .ensures) ∙ (c .before .if2 .taken), c .held .ensures)
-
 parity-noted-requires : tie.Need-parity-noted-requires
 parity-noted-requires c κs = search needs
 
@@ -47,9 +37,9 @@ ending-with-requires c κs = search needs
 done-requires : tie.Need-done-requires
 done-requires c κs = search needs
 
-returns-3 : tie.Need-returns-3
+returns-2 : tie.Need-returns-2
 unfolding takeSave unlessHalted unlessInterrupt pick
-returns-3 c = simp (sym (c .before .before .before .before .before .before .before .before .before .halts .ensures) ∙ (c .before .before .before .before .before .before .before .before .if1 .left), sym (c .before .before .before .before .before .before .before .interrupted .ensures) ∙ (c .before .before .before .before .before .before .if2 .left), c .before .before .before .before .before .parity-noted .ensures, c .before .before .before .before .phase .ensures, c .before .before .before .ack .ensures, c .before .before .reported .ensures, c .before .ending-with .ensures, c .done .ensures)
+returns-2 c = simp (sym (c .before .before .before .before .before .before .before .halts .ensures) ∙ (c .before .before .before .before .before .before .if1 .left), c .before .before .before .before .before .parity-noted .ensures, c .before .before .before .before .phase .ensures, c .before .before .before .ack .ensures, c .before .before .reported .ensures, c .before .ending-with .ensures, c .done .ensures)
 
 pub save-spec : {M : Type 1} → statement M
 save-spec =
@@ -58,13 +48,10 @@ save-spec =
     halts-requires
     halted-requires
     returns
-    interrupted-requires
-    held-requires
-    returns-2
     parity-noted-requires
     phase-requires
     ack-requires
     reported-requires
     ending-with-requires
     done-requires
-    returns-3)
+    returns-2)

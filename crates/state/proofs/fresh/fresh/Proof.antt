@@ -10,21 +10,16 @@ cleared-requires c κs = search needs
 empty-requires : tie.Need-empty-requires
 empty-requires c κs = search needs
 
-nothing-runs-requires : tie.Need-nothing-runs-requires
-nothing-runs-requires c κs = search needs
+nothing-moves-requires : tie.Need-nothing-moves-requires
+nothing-moves-requires c κs = search needs
 
 apart-requires : tie.Need-apart-requires
 apart-requires c κs = search needs
 
 returns : tie.Need-returns
-returns c = simp (c .before .before .before .cleared .ensures, c .before .before .empty .ensures, c .before .nothing-runs .ensures, c .apart .ensures)
+returns c = simp (c .before .before .before .cleared .ensures, c .before .before .empty .ensures, c .before .nothing-moves .ensures, c .apart .ensures)
 
 pub fresh-spec : {M : Type 1} → statement M
 fresh-spec =
     tie.close
-    (tie.spec
-    cleared-requires
-    empty-requires
-    nothing-runs-requires
-    apart-requires
-    returns)
+    (tie.spec cleared-requires empty-requires nothing-moves-requires apart-requires returns)
