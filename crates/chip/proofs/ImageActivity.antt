@@ -10,7 +10,7 @@ use native.Mathlib.Omega.{arith}
 use lib.Dec.{eqb, ltb}
 use borrow.Author.Tests.{eqb-true, ltb-true, ne-eqb}
 use Rattle.chip.specs.Choice.{pick, both, either}
-use Rattle.chip.specs.Activity.{commandNumber, commandCount, commandOf, runningNumber, pendingNumber, codeToCome, activityOf, isActivity}
+use Rattle.chip.specs.Activity.{commandNumber, commandCount, commandOf, runningNumber, pendingNumber, codeToCome, activityOf, goWith, isActivity}
 use Rattle.chip.specs.declared.Activity.{Activity}
 use Rattle.chip.specs.declared.Activity.the-variants.{Idle, Interrupt, Runs, Ends, ReadOut}
 use Rattle.chip.proofs.Cases.{by-test, both-first, both-second}
@@ -25,7 +25,7 @@ activity-form (Ends r k) = simp (command-runs r, command-of-number r)
 activity-form (ReadOut r) = simp (command-runs r, command-of-number r)
 
 pub activity-valid : (a : Activity) → isActivity (pendingNumber a) (codeToCome a) (runningNumber a) ≡ true
-unfolding isActivity pick both either
+unfolding isActivity goWith pick both either
 activity-valid Idle = refl
 activity-valid Interrupt = refl
 activity-valid (Runs r) = simp (command-below r)
@@ -51,35 +51,26 @@ more : (p j : ℕ) → ((suc (suc (suc (suc p))) ≡ j) → ⊥) → eqb (suc (s
 more p j h = ne-eqb _ j h
 
 -- t: no command runs
-module _ (k n : ℕ) where
-  kept-by : (p : ℕ) (t : Bool) → eqb n 0 ≡ t → isActivity p k n ≡ true → Kept p k n (activityOf p k n)
-  unfolding isActivity activityOf pick both either Kept
-  kept-by zero true z e = rw z (refl, sym (eqb-true k 0 (both-first (eqb k 0) _ e)), sym (eqb-true n 0 z))
-  kept-by zero false z e =
-      rw z (
-        refl,
-        sym (eqb-true k 0 (both-first (eqb k 0) _ e)),
-        command-kept n (ltb-true n commandCount (both-second (eqb k 0) _ e)) z,
-      )
+module _ (k n : ℕ) (b : n < commandCount) where
+  kept-by : (p : ℕ) (t : Bool) → eqb n 0 ≡ t → goWith p k n ≡ true → Kept p k n (activityOf p k n)
+  unfolding goWith activityOf pick both either Kept
+  kept-by zero true z e = rw z (refl, sym (eqb-true k 0 e), sym (eqb-true n 0 z))
+  kept-by zero false z e = rw z (refl, sym (eqb-true k 0 e), command-kept n b z)
   kept-by (suc zero) true z e = rw z (refl, sym (eqb-true k 0 (rw z at e)), sym (eqb-true n 0 z))
-  kept-by (suc zero) false z e = absurd (false≢true (both-second (ltb n commandCount) false (rw z at e)))
+  kept-by (suc zero) false z e = absurd (false≢true (rw z at e))
   kept-by (suc (suc zero)) true z e = absurd (false≢true (rw z at e))
-  kept-by (suc (suc zero)) false z e =
-      rw z (refl, refl, command-kept n (ltb-true n commandCount (both-first (ltb n commandCount) true (rw z at e))) z)
+  kept-by (suc (suc zero)) false z e = rw z (refl, refl, command-kept n b z)
   kept-by (suc (suc (suc zero))) true z e = absurd (false≢true (rw z at e))
-  kept-by (suc (suc (suc zero))) false z e =
-      rw z (
-        refl,
-        sym (eqb-true k 0 (both-second (ltb n commandCount) (eqb k 0) (rw z at e))),
-        command-kept n (ltb-true n commandCount (both-first (ltb n commandCount) (eqb k 0) (rw z at e))) z,
-      )
+  kept-by (suc (suc (suc zero))) false z e = rw z (refl, sym (eqb-true k 0 (rw z at e)), command-kept n b z)
   kept-by (suc (suc (suc (suc p)))) true z e = absurd (false≢true (rw (z, more p 0 (λ q. omega (arith, q)), more p 1 (λ q. omega (arith, q))) at e))
   kept-by (suc (suc (suc (suc p)))) false z e =
-      absurd (false≢true (both-second (ltb n commandCount) false (rw (z, more p 0 (λ q. omega (arith, q)), more p 2 (λ q. omega (arith, q)), more p 3 (λ q. omega (arith, q))) at e)))
+      absurd (false≢true (rw (z, more p 0 (λ q. omega (arith, q)), more p 2 (λ q. omega (arith, q)), more p 3 (λ q. omega (arith, q))) at e))
 
 module _ (p k n : ℕ) (e : isActivity p k n ≡ true) where
   kept : Kept p k n (activityOf p k n)
-  kept = kept-by k n p (eqb n 0) refl e
+  unfolding isActivity
+  kept =
+      kept-by k n (ltb-true n commandCount (both-first (ltb n commandCount) _ e)) p (eqb n 0) refl (both-second (ltb n commandCount) _ e)
 
   pub pending-kept : pendingNumber (activityOf p k n) ≡ p
   unfolding Kept
@@ -95,6 +86,5 @@ module _ (p k n : ℕ) (e : isActivity p k n ≡ true) where
 
 -- INT is 1 in the first of the three
 pub no-int-running : (k n : ℕ) → eqb n 0 ≡ false → isActivity 1 k n ≡ false
-unfolding isActivity pick both either
-no-int-running k n z =
-    rw z (by-test (ltb n commandCount) (λ e. rw e) (λ e. rw e))
+unfolding isActivity goWith pick both either
+no-int-running k n z = rw z (by-test (ltb n commandCount) (λ e. rw e) (λ e. rw e))

@@ -25,9 +25,8 @@ commandCount = 6
 -- the command of a number from 1 up
 unfoldable pub commandOf : ℕ → Command
 commandOf n =
-    pick (eqb n 1) SelectWithAtn
-    (pick (eqb n 2) SelectWithoutAtn
-    (pick (eqb n 3) SelectAndTransferWithAtn (pick (eqb n 4) SelectAndTransferWithoutAtn TransferInfo)))
+    pick (ltb n 3) (pick (ltb n 2) SelectWithAtn SelectWithoutAtn)
+    (pick (ltb n 5) (pick (ltb n 4) SelectAndTransferWithAtn SelectAndTransferWithoutAtn) TransferInfo)
 
 -- the command that runs, by its number; 0 where none does
 abbrev pub runningNumber : Activity → ℕ
@@ -59,12 +58,16 @@ activityOf p k n =
     pick (eqb n 0) (pick (eqb p 0) Idle Interrupt)
     (pick (eqb p 0) (Runs (commandOf n)) (pick (eqb p 2) (Ends (commandOf n) k) (ReadOut (commandOf n))))
 
--- the three numbers are an activity's. With nothing pending any command may run, or none; INT is pending only where none runs, an ending
--- and a read-out only where one does; no code is to come but an ending's. "A lent image with both set is Bad number from then on." (02)
+-- what is pending goes with the command: nothing with each and with none, INT only where none runs, an ending and a read-out only where
+-- one does; no code is to come but an ending's. "A lent image with both set is Bad number from then on." (02)
+unfoldable pub goWith : ℕ → ℕ → ℕ → Bool
+goWith p k n =
+    pick (eqb p 0) (eqb k 0)
+    (pick (eqb n 0) (both (eqb p 1) (eqb k 0)) (either (eqb p 2) (both (eqb p 3) (eqb k 0))))
+
+-- the three numbers are an activity's
 unfoldable pub isActivity : ℕ → ℕ → ℕ → Bool
-isActivity p k n =
-    pick (eqb p 0) (both (eqb k 0) (ltb n commandCount))
-    (pick (eqb n 0) (both (eqb p 1) (eqb k 0)) (both (ltb n commandCount) (either (eqb p 2) (both (eqb p 3) (eqb k 0)))))
+isActivity p k n = both (ltb n commandCount) (goWith p k n)
 
 -- INT
 abbrev pub isInterrupt : Activity → Bool

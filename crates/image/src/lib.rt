@@ -16,7 +16,7 @@ ghost use lib.Dec.{eqb};
 ghost use lib.ListN.{length};
 ghost use Rattle.chip.specs.Choice.{pick};
 ghost use Rattle.chip.specs.State.{fresh};
-ghost use Rattle.chip.specs.Activity.{isActivity};
+ghost use Rattle.chip.specs.Activity.{goWith, isActivity};
 ghost use Rattle.chip.specs.Image.{imageLength, isImage, imageOf, stateOf};
 ghost use Rattle.image.specs.IsImage.{IsImage};
 ghost use mathlib.Core.Bool.{true};
@@ -34,18 +34,24 @@ pub const LENGTH: usize = 53;
 // Where the FIFO's bytes begin.
 const FIFO: usize = 40;
 
-// The three bytes that say the activity: where something is pending, it is INT exactly if no command runs. Mostly nothing is, so that is
-// asked first.
-fn is_activity(p: u8, k: u8, n: u8) -> bool
-    ensures { λ r. ⌜ r ≡ isActivity p k n ⌝ }
+// What is pending goes with the command that runs. Mostly nothing is, so that is asked first.
+fn go_with(p: u8, k: u8, n: u8) -> bool
+    ensures { λ r. ⌜ r ≡ goWith p k n ⌝ }
 {
     if p == 0 {
-        return (k == 0) & (n < activity::COMMANDS);
+        return k == 0;
     }
     if n == 0 {
         return (p == 1) & (k == 0);
     }
-    (n < activity::COMMANDS) & ((p == 2) | ((p == 3) & (k == 0)))
+    (p == 2) | ((p == 3) & (k == 0))
+}
+
+// The three bytes that say the activity.
+fn is_activity(p: u8, k: u8, n: u8) -> bool
+    ensures { λ r. ⌜ r ≡ isActivity p k n ⌝ }
+{
+    (n < activity::COMMANDS) & go_with(p, k, n)
 }
 
 fn has_form(image: &[u8]) -> bool

@@ -25,16 +25,16 @@ fn command_number(r: Command) -> u8
 fn command_of(n: u8) -> Command
     ensures { λ r. ⌜ r ≡ commandOf n ⌝ }
 {
-    if n == 1 {
-        return Command::SelectWithAtn;
-    }
-    if n == 2 {
+    if n < 3 {
+        if n < 2 {
+            return Command::SelectWithAtn;
+        }
         return Command::SelectWithoutAtn;
     }
-    if n == 3 {
-        return Command::SelectAndTransferWithAtn;
-    }
-    if n == 4 {
+    if n < 5 {
+        if n < 4 {
+            return Command::SelectAndTransferWithAtn;
+        }
         return Command::SelectAndTransferWithoutAtn;
     }
     Command::TransferInfo
