@@ -144,7 +144,7 @@ build/bench: bench/bench.c bench/work.h bench/plain.c bench/plain.h bench/model.
 
 build/bench_before: bench/bench.c bench/work.h bench/plain.c bench/plain.h include/am33c93a.h $(BEFORE) $(NATIVE)
 	@sed 's/am33c93a_/before_/g; s/AM33C93A/BEFORE/g' include/am33c93a.h > build/before.h
-	@objcopy $(shell sed -n 's/^uint32_t \(am33c93a_\([a-z_]*\)\)(.*/--redefine-sym \1=before_\2/p' include/am33c93a.h) $(BEFORE) build/before.a
+	@objcopy $$(sed -n 's/^uint32_t am33c93a_\([a-z_]*\)[^a-z_].*/--redefine-sym am33c93a_\1=before_\1/p' include/am33c93a.h) $(BEFORE) build/before.a
 	@$(CC) $(CFLAGS) -DBEFORE -Ibuild -o $@ $< bench/plain.c $(NATIVE) build/before.a
 
 $(MODEL_C): $(wildcard tests/model/src/*.rs tests/model/Cargo.* bench/model_c/src/*.rs bench/model_c/Cargo.*)

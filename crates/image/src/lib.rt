@@ -60,17 +60,18 @@ fn has_form(image: &[u8]) -> bool
     if image.len() != LENGTH {
         return false;
     }
+    // The five flags stand side by side, so that the compiler asks them at once.
     let ranges = (image[26] < 2)
         & (image[27] < 2)
-        & is_activity(image[28], image[29], image[31])
-        & (image[30] < connections::COUNT)
-        & (image[32] < 3)
         & (image[33] < 2)
         & (image[34] < 2)
         & (image[35] < 2)
+        & (image[30] < connections::COUNT)
+        & (image[32] < 3)
         & (image[36] < 9)
         & (image[37] < 9)
-        & (image[38] < 8);
+        & (image[38] < 8)
+        & is_activity(image[28], image[29], image[31]);
     if ranges {
         return part::is_fifo(&image[FIFO..LENGTH]);
     }
