@@ -10,14 +10,13 @@ use lib.ListN.{length}
 use Rattle.chip.proofs.Cases.{both-first}
 use Rattle.chip.specs.Choice.{pick, both}
 use Rattle.chip.specs.Calls.{Call, isGood, isSet, carried, plain, moved, block}
-use Rattle.chip.specs.Registers.{Moved, blockRead, blockWritten}
-use Rattle.chip.specs.declared.Answer.the-variants.{Done}
+use Rattle.chip.specs.Registers.{blockRead, blockWritten}
 use Rattle.chip.specs.Entries.{AfterEntry, result, written, refused, entered, lineBits, linesEntered, freshEntered}
 use Rattle.chip.specs.State.{fresh}
 use Rattle.chip.specs.Image.{imageOf, stateOf, isImage, imageLength}
 use Rattle.chip.specs.declared.Reply.{Reply}
 use Rattle.chip.specs.declared.State.{State}
-use Rattle.controller.specs.Returns.{Returns}
+use Rattle.controller.specs.Returns.{Returns, ReturnsMoved}
 use Rattle.image.specs.Read.{readOf}
 use Rattle.image.specs.declared.Reading.{Reading}
 
@@ -111,28 +110,23 @@ and-false a b p = rw p
 pub and-then-false : (a b : Bool) → b ≡ false → both a b ≡ false
 and-then-false a b q = rw q (both-false a)
 
--- a block move: v is what the mark's kind of block gives, k and t its number and state as the code has them
-pub block-served : (mark : ℕ) (d l : List ℕ) (r : Reading) (v : Moved) (k : ℕ) (t : State) (n : ℕ) (after d′ : List ℕ)
-    → r ≡ readOf l → r .ok ≡ true → ltb mark 2 ≡ true
-    → pick (isSet mark) (blockWritten d (r .state)) (blockRead d (r .state)) ≡ v → k ≡ v .number → t ≡ v .state
-    → n ≡ result (Done k) → after ≡ pick (eqb (length l) imageLength) (imageOf t) l → d′ ≡ v .bytes
+-- a block move made on an image that stands
+pub block-made : (mark : ℕ) (d l : List ℕ) (n : ℕ) (after d′ : List ℕ) → isImage l ≡ true → ltb mark 2 ≡ true
+    → ReturnsMoved (pick (isSet mark) (blockWritten d (stateOf l)) (blockRead d (stateOf l))) n after d′
     → (n ≡ entered (block mark d) l .result) × (after ≡ entered (block mark d) l .image) × (d′ ≡ entered (block mark d) l .lent)
-unfolding pick isGood carried
-block-served mark d l r v k t n after d′ e h g q kn ts a b z =
-    let i : isImage l ≡ true = image-read l r e h in
-    let w : entered (block mark d) l ≡ written (moved v) =
-    taken (block mark d) l i g ∙ ap (λ (s : State). written (carried (block mark d) s)) (sym (state-read l r e h))
-    ∙ ap (λ (x : Moved). written (moved x)) q in (
-      a ∙ ap (λ (x : ℕ). result (Done x)) kn ∙ sym (ap (λ (x : AfterEntry). x .result) w),
-      b ∙ (let long : eqb (length l) imageLength ≡ true = long-enough l i in rw long) ∙ ap imageOf ts
-          ∙ sym (ap (λ (x : AfterEntry). x .image) w),
-      z ∙ sym (ap (λ (x : AfterEntry). x .lent) w),
+unfolding isGood carried
+block-made mark d l n after d′ i g m =
+    let w : entered (block mark d) l ≡ written (moved (pick (isSet mark) (blockWritten d (stateOf l)) (blockRead d (stateOf l)))) =
+    taken (block mark d) l i g in (
+      m .number ∙ sym (ap (λ (x : AfterEntry). x .result) w),
+      m .image ∙ sym (ap (λ (x : AfterEntry). x .image) w),
+      m .bytes ∙ sym (ap (λ (x : AfterEntry). x .lent) w),
     )
 
-pub block-refused-image : (mark : ℕ) (d l : List ℕ) (r : Reading) → r ≡ readOf l → r .ok ≡ false
+pub block-not-standing : (mark : ℕ) (d l : List ℕ) → isImage l ≡ false
     → (3 ≡ entered (block mark d) l .result) × (l ≡ entered (block mark d) l .image) × (d ≡ entered (block mark d) l .lent)
-block-refused-image mark d l r e h =
-    let w : entered (block mark d) l ≡ refused (block mark d) l = no-image (block mark d) l (sym (ok-is l r e) ∙ h) in
+block-not-standing mark d l i =
+    let w : entered (block mark d) l ≡ refused (block mark d) l = no-image (block mark d) l i in
     (sym (ap (λ (x : AfterEntry). x .result) w), sym (ap (λ (x : AfterEntry). x .image) w), sym (ap (λ (x : AfterEntry). x .lent) w))
 
 pub block-refused-mark : (mark : ℕ) (d l : List ℕ) → ltb mark 2 ≡ false

@@ -14,6 +14,7 @@ use Rattle.chip.specs.Calls.{isSet}
 use Rattle.chip.specs.declared.State.{State}
 use Rattle.chip.specs.declared.Fifo.{Fifo}
 use Rattle.chip.specs.declared.Reply.{Reply}
+use Rattle.chip.specs.declared.Answer.the-variants.{Done, ReselectionIgnored}
 use Rattle.chip.specs.declared.Phase.the-variants.{DataIn, DataOut}
 use Rattle.chip.specs.declared.Noted.the-variants.{Was}
 use Rattle.chip.specs.Answers.{done}
@@ -22,22 +23,33 @@ use Rattle.chip.specs.Fifo.{front, pop, push, fifoBytes, newestIn, Whole}
 use Rattle.chip.specs.State.{fresh, setPointer, setFifo, setCount, setLast}
 use Rattle.chip.specs.Image.{imageOf, stateOf, imageLength, fifoPlace}
 use Rattle.chip.specs.Phases.{phaseOf}
-use Rattle.chip.specs.Registers.{accessed, accessedAt, auxiliaryRead, pointerRead, pointerSet, stored, registerAt}
-use Rattle.chip.specs.Events.{requested}
+use Rattle.chip.specs.Registers.{Moved, accessed, accessedAt, auxiliaryRead, pointerRead, pointerSet, stored, registerAt, blockRead, blockWritten}
+use Rattle.chip.specs.Events.{requested, passed, selects, reselected}
+use Rattle.chip.specs.Interrupts.{inEnding}
+use Rattle.chip.specs.Lines.{qualifies}
 use Rattle.chip.proofs.FifoLaws.{keeps-bytes}
 use Rattle.image.specs.IsImage.{IsImage}
-use Rattle.chip.proofs.ImageFields.{long}
+use Rattle.chip.proofs.ImageFields.{fifo-stored}
+use Rattle.blocks.proofs.Blocks.{written-alone, written-bytes, read-alone}
 use Rattle.chip.proofs.ImageRegisters.{register-at, register-and-pointer}
 use Rattle.chip.specs.Moves.{isPlain, readsData, writesData, takesByte, sendsByte}
 use Rattle.chip.proofs.Moves.{unless, below, plain-read, plain-write, data-read, data-write, low, taking, byte-taken, sending, byte-sent}
-use Rattle.controller.specs.Returns.{Returns}
-use Rattle.controller.proofs.Entry.{long-enough, pick-true, and-true, finished}
+use Rattle.controller.specs.Returns.{Returns, ReturnsMoved}
+use Rattle.controller.proofs.Entry.{long-enough, pick-true, pick-false, and-true, finished}
 use Rattle.controller.proofs.InPlace.{At, at-start, fits, state-is, put-pointer-at, put-last-at, put-low-at, put-fifo-at, put-newest-at}
 use Rattle.chip.proofs.Cases.{both-first, both-second}
 
 -- a reply as it is computed
 replied : (p r : Reply) (n : ℕ) (after : List ℕ) → p ≡ r → Returns r n after → Returns p n after
 replied p r n after e m = record { number = m .number ∙ ap (λ (x : Reply). result (x .answer)) (sym e); image = m .image ∙ ap (λ (x : Reply). imageOf (x .state)) (sym e) }
+
+moved-as : (p r : Moved) (n : ℕ) (after lent : List ℕ) → p ≡ r → ReturnsMoved r n after lent → ReturnsMoved p n after lent
+moved-as p r n after lent e m =
+    record {
+      number = m .number ∙ ap (λ (x : Moved). result (Done (x .number))) (sym e);
+      image = m .image ∙ ap (λ (x : Moved). imageOf (x .state)) (sym e);
+      bytes = m .bytes ∙ ap (λ (x : Moved). x .bytes) (sym e);
+    }
 
 module _ (l : List ℕ) (o : IsImage l) where
   start : At l (stateOf l)
@@ -183,6 +195,74 @@ module _ (l : List ℕ) (o : IsImage l) where
       → after ≡ pick (eqb (length l) imageLength) (imageOf (r .state)) l → Returns (f (stateOf l)) n after
   whole-made f t r n after e g a b =
       replied _ _ _ _ (sym (g ∙ ap f (state-is l t o e))) (finished l r n after (o .valid) a b)
+
+  -- calls that store nothing
+
+  pub time-still : (n : ℕ) (t : State) (r : Bool) → t ≡ pick (eqb (length l) imageLength) (stateOf l) fresh → r ≡ selects t → r ≡ false
+      → Returns (passed n (stateOf l)) 0 l
+  unfolding passed
+  time-still n t r e f h =
+      let k : selects (stateOf l) ≡ false = sym (ap selects (state-is l t o e)) ∙ sym f ∙ h in
+      replied _ _ _ _ (pick-false _ _ _ k) (record { number = refl; image = start .image })
+
+  pub reselection-ignored : (lines : ℕ) (t : State) (r : Bool) (n : ℕ) → t ≡ pick (eqb (length l) imageLength) (stateOf l) fresh
+      → r ≡ qualifies lines t → r ≡ false → n ≡ result ReselectionIgnored → Returns (reselected lines (stateOf l)) n l
+  unfolding reselected
+  reselection-ignored lines t r n e f h m =
+      let k : qualifies lines (stateOf l) ≡ false = sym (ap (qualifies lines) (state-is l t o e)) ∙ sym f ∙ h in
+      replied _ _ _ _ (pick-false _ _ _ k) (record { number = m; image = start .image })
+
+  -- block moves: k and u are the number moved and the state then, as the code has them
+
+  -- the FIFO stored, where nothing else changes
+  fifo-alone : (u v : State) (after : List ℕ) → u ≡ v → v ≡ setFifo (v .fifo) (stateOf l)
+      → after ≡ pick (eqb (length l) imageLength) (take fifoPlace l ++ fifoBytes (u .fifo)) l → after ≡ imageOf v
+  fifo-alone u v after e h b =
+      b ∙ pick-true _ _ _ (long-enough l (o .valid)) ∙ ap (λ (x : State). take fifoPlace l ++ fifoBytes (x .fifo)) e
+      ∙ ap (λ (x : List ℕ). take fifoPlace x ++ fifoBytes (v .fifo)) (start .image)
+      ∙ sym (fifo-stored (v .fifo) (stateOf l) (start .long)) ∙ ap imageOf (sym h)
+
+  pub block-written-made : (mark : ℕ) (d : List ℕ) (t : State) (k : ℕ) (u : State) (n : ℕ) (after : List ℕ) → mark ≡ 1
+      → t ≡ pick (eqb (length l) imageLength) (stateOf l) fresh → k ≡ blockWritten d t .number → u ≡ blockWritten d t .state
+      → n ≡ result (Done k) → after ≡ pick (eqb (length l) imageLength) (take fifoPlace l ++ fifoBytes (u .fifo)) l
+      → ReturnsMoved (pick (isSet mark) (blockWritten d (stateOf l)) (blockRead d (stateOf l))) n after d
+  block-written-made mark d t k u n after m e kn us a b =
+      let i = state-is l t o e in
+      moved-as _ _ _ _ _ (pick-true _ _ _ (eq-eqb mark 1 m))
+      (record {
+        number = a ∙ ap (λ (x : ℕ). result (Done x)) (kn ∙ ap (λ (x : State). blockWritten d x .number) i);
+        image = fifo-alone u _ after (us ∙ ap (λ (x : State). blockWritten d x .state) i) (written-alone d (stateOf l)) b;
+        bytes = sym (written-bytes d (stateOf l));
+      })
+
+  pub block-read-made : (mark : ℕ) (d : List ℕ) (t : State) (r : Bool) (k : ℕ) (u : State) (n : ℕ) (after d′ : List ℕ) → (mark ≡ 1 → ⊥)
+      → t ≡ pick (eqb (length l) imageLength) (stateOf l) fresh → r ≡ inEnding t → r ≡ false → k ≡ blockRead d t .number
+      → u ≡ blockRead d t .state → d′ ≡ blockRead d t .bytes → n ≡ result (Done k)
+      → after ≡ pick (eqb (length l) imageLength) (take fifoPlace l ++ fifoBytes (u .fifo)) l
+      → ReturnsMoved (pick (isSet mark) (blockWritten d (stateOf l)) (blockRead d (stateOf l))) n after d′
+  block-read-made mark d t r k u n after d′ m e f h kn us z a b =
+      let i = state-is l t o e in
+      let calm : inEnding (stateOf l) ≡ false = sym (ap inEnding i) ∙ sym f ∙ h in
+      moved-as _ _ _ _ _ (pick-false _ _ _ (ne-eqb mark 1 m))
+      (record {
+        number = a ∙ ap (λ (x : ℕ). result (Done x)) (kn ∙ ap (λ (x : State). blockRead d x .number) i);
+        image = fifo-alone u _ after (us ∙ ap (λ (x : State). blockRead d x .state) i) (read-alone d (stateOf l) calm) b;
+        bytes = z ∙ ap (λ (x : State). blockRead d x .bytes) i;
+      })
+
+  pub block-ended-made : (mark : ℕ) (d : List ℕ) (t : State) (k : ℕ) (u : State) (n : ℕ) (after d′ : List ℕ) → (mark ≡ 1 → ⊥)
+      → t ≡ pick (eqb (length l) imageLength) (stateOf l) fresh → k ≡ blockRead d t .number
+      → u ≡ blockRead d t .state → d′ ≡ blockRead d t .bytes → n ≡ result (Done k)
+      → after ≡ pick (eqb (length l) imageLength) (imageOf u) l
+      → ReturnsMoved (pick (isSet mark) (blockWritten d (stateOf l)) (blockRead d (stateOf l))) n after d′
+  block-ended-made mark d t k u n after d′ m e kn us z a b =
+      let i = state-is l t o e in
+      moved-as _ _ _ _ _ (pick-false _ _ _ (ne-eqb mark 1 m))
+      (record {
+        number = a ∙ ap (λ (x : ℕ). result (Done x)) (kn ∙ ap (λ (x : State). blockRead d x .number) i);
+        image = b ∙ pick-true _ _ _ (long-enough l (o .valid)) ∙ ap imageOf (us ∙ ap (λ (x : State). blockRead d x .state) i);
+        bytes = z ∙ ap (λ (x : State). blockRead d x .bytes) i;
+      })
 
 -- which Request it is
 

@@ -3,18 +3,26 @@
 ghost use lib.Dec.{eqb};
 ghost use Prim.Native.Nat.{_-_, _%_, _≤_};
 ghost use mathlib.Core.Bool.{false, true};
+ghost use mathlib.Core.List.{_++_};
+ghost use lib.ListN.{length, take};
 ghost use mathlib.Core.Path.{_≡_};
 ghost use Rattle.chip.specs.Calls.{isSet};
 ghost use Rattle.chip.specs.Choice.{both, pick};
-ghost use Rattle.chip.specs.Events.{requested};
-ghost use Rattle.chip.specs.Image.{stateOf};
+ghost use Rattle.chip.specs.Entries.{result};
+ghost use Rattle.chip.specs.Events.{passed, requested, reselected};
+ghost use Rattle.chip.specs.Fifo.{fifoBytes};
+ghost use Rattle.chip.specs.Image.{fifoPlace, imageLength, stateOf};
 ghost use Rattle.chip.specs.Phases.{phaseOf};
-ghost use Rattle.chip.specs.Registers.{accessed, auxiliaryRead, pointerRead, pointerSet};
-ghost use Rattle.controller.specs.Returns.{Returns};
+ghost use Rattle.chip.specs.Registers.{accessed, auxiliaryRead, blockRead, blockWritten, pointerRead, pointerSet};
+ghost use Rattle.controller.specs.Returns.{Returns, ReturnsMoved};
 ghost use Rattle.image.specs.IsImage.{IsImage};
 ghost use Rattle.chip.specs.Moves.{isPlain, readsData, sendsByte, takesByte};
 use crate::finish;
+use blocks::Moved;
 use bus::request;
+use bus::reselection;
+use bus::time;
+use chip::Answer;
 use chip::Phase;
 use chip::State;
 use image::store;
@@ -199,4 +207,55 @@ pub(crate) fn request(phase: u8, byte: u8, bad: bool, image: &mut [u8]) -> u32
         return byte_sent(byte, bad, image);
     }
     request_whole(phase, byte, bad, image)
+}
+
+// A block moved, of which the FIFO alone keeps a mark.
+fn fifo_moved(m: Moved, image: &mut [u8]) -> u32
+    ensures { λ n. ⌜ (n ≡ result (Answer.Done (m .number)))
+        × (now (image .exit) ≡ pick (eqb (length (now (image .entry))) imageLength) (take fifoPlace (now (image .entry)) ++ fifoBytes (m .state .fifo)) (now (image .entry))) ⌝ }
+{
+    let s = m.state;
+    let q = s.fifo;
+    let number = m.number;
+    store::fifo(q, image);
+    answers::result(Answer::Done(number))
+}
+
+// A block move. Only where an ending is under way can more than the FIFO change.
+pub(crate) fn block(mark: u32, bytes: &mut [u8], image: &mut [u8]) -> u32
+    requires { ⌜ IsImage (now image) ⌝ }
+    ensures { λ r. ⌜ ReturnsMoved (pick (isSet mark) (blockWritten (now (bytes .entry)) (stateOf (now (image .entry)))) (blockRead (now (bytes .entry)) (stateOf (now (image .entry))))) r (now (image .exit)) (now (bytes .exit)) ⌝ }
+{
+    let s = image::state(image);
+    if mark == 1 {
+        return fifo_moved(blocks::block_written(s, bytes), image);
+    }
+    if interrupts::in_ending(s) {
+        return finish::moved(blocks::block_read(s, bytes), image);
+    }
+    fifo_moved(blocks::block_read(s, bytes), image)
+}
+
+// Time counts only where a selection runs.
+pub(crate) fn time(units: u8, image: &mut [u8]) -> u32
+    requires { ⌜ IsImage (now image) ⌝ }
+    ensures { λ r. ⌜ Returns (passed units (stateOf (now (image .entry)))) r (now (image .exit)) ⌝ }
+{
+    let s = image::state(image);
+    if time::selects(s) {
+        return finish::finish(time::passed(units, s), image);
+    }
+    0
+}
+
+// A reselection that names another is not for us, and changes nothing.
+pub(crate) fn reselection(data_lines: u8, image: &mut [u8]) -> u32
+    requires { ⌜ IsImage (now image) ⌝ }
+    ensures { λ r. ⌜ Returns (reselected data_lines (stateOf (now (image .entry)))) r (now (image .exit)) ⌝ }
+{
+    let s = image::state(image);
+    if lines::qualifies(data_lines, s) {
+        return finish::finish(reselection::reselected(data_lines, s), image);
+    }
+    answers::result(Answer::ReselectionIgnored)
 }

@@ -7,8 +7,6 @@ mod in_place; // in_place.rt: calls that store only the bytes that change
 
 use bus::answer;
 use bus::free;
-use bus::reselection;
-use bus::time;
 use state::fresh;
 ghost use Rattle.chip.specs.Calls as Calls;
 ghost use Rattle.chip.specs.Entries.{entered, freshEntered, linesEntered};
@@ -90,13 +88,8 @@ pub extern "C" fn am33c93a_block(image: &mut [u8], mark: u32, bytes: &mut [u8]) 
         × (now (bytes .exit) ≡ entered (Calls.block mark (now (bytes .entry))) (now (image .entry)) .lent) ⌝ }
 {
     if mark < 2 {
-        let reading = image::read(image);
-        if reading.ok {
-            let s = reading.state;
-            if mark == 1 {
-                return finish::moved(blocks::block_written(s, bytes), image);
-            }
-            return finish::moved(blocks::block_read(s, bytes), image);
+        if image::is_image(image) {
+            return in_place::block(mark, bytes, image);
         }
         return BAD_NUMBER;
     }
@@ -109,10 +102,8 @@ pub extern "C" fn am33c93a_time(image: &mut [u8], units: u32) -> u32
         × (now (image .exit) ≡ entered (Calls.time units) (now (image .entry)) .image) ⌝ }
 {
     if units < 256 {
-        let reading = image::read(image);
-        if reading.ok {
-            let s = reading.state;
-            return finish::finish(time::passed(units as u8, s), image);
+        if image::is_image(image) {
+            return in_place::time(units as u8, image);
         }
         return BAD_NUMBER;
     }
@@ -138,10 +129,8 @@ pub extern "C" fn am33c93a_reselection(image: &mut [u8], lines: u32) -> u32
         × (now (image .exit) ≡ entered (Calls.reselection lines) (now (image .entry)) .image) ⌝ }
 {
     if lines < 256 {
-        let reading = image::read(image);
-        if reading.ok {
-            let s = reading.state;
-            return finish::finish(reselection::reselected(lines as u8, s), image);
+        if image::is_image(image) {
+            return in_place::reselection(lines as u8, image);
         }
         return BAD_NUMBER;
     }

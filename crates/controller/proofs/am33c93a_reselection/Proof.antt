@@ -1,58 +1,47 @@
--- `controller::am33c93a_reselection` meets its contract: each way through the code is the definition's own way.
-use mathlib.Core.Path.{refl, ap, sym, _∙_}
+-- `controller::am33c93a_reselection` meets its contract.
+use mathlib.Core.Path.{refl, sym, _∙_}
 use Rattle.chip.specs.Calls as Calls
-use Rattle.chip.specs.Calls.{isGood, carried, plain}
+use Rattle.chip.specs.Calls.{isGood, carried}
 use borrow.Author.Tests.{lt-ltb, le-ltb}
-use Rattle.controller.proofs.Entry.{served, refused-image, refused-operand, and-true, and-false, and-then-false}
+use Rattle.controller.proofs.Entry.{entered-made, not-standing, refused-operand}
 use borrow.Author.Needs.{needs}
 use Rattle.controller.proofs.am33c93a_reselection.Statement.{statement}
 use Rattle.controller.proofs.am33c93a_reselection.Tie as tie
 
-read-requires : tie.Need-read-requires
-read-requires c κs = search needs
+is-image-requires : tie.Need-is-image-requires
+is-image-requires c κs = search needs
 
-cast-reselected : tie.Need-cast-reselected
-cast-reselected c = search needs
+cast-reselection : tie.Need-cast-reselection
+cast-reselection c = search needs
 
-reselected-requires : tie.Need-reselected-requires
-reselected-requires c κs = search needs
-
-finish-requires : tie.Need-finish-requires
-finish-requires c κs = search needs
+reselection-requires : tie.Need-reselection-requires
+reselection-requires c κs = c .before .before .is-image .ensures .1 (c .before .if2 .taken)
 
 same-length : tie.Need-same-length
 same-length c = search needs
 
 returns : tie.Need-returns
 unfolding isGood carried
-returns c =
-    served (Calls.reselection _) _ _ _ _ _ (c .before .before .before .before .before .before .before .read .ensures) (c .before .before .before .before .before .before .if2 .taken)
-    (lt-ltb _ _ (c .before .before .before .before .before .before .before .before .before .if1 .taken))
-    (ap plain (sym (c .before .before .before .before .reselected .ensures)))
-    (c .before .before .finish .ensures .0)
-    (c .before .before .finish .ensures .1)
+returns c = entered-made (Calls.reselection _) _ _ _ _ (sym (c .before .before .before .before .before .is-image .ensures .0) ∙ c .before .before .before .before .if2 .taken) (lt-ltb _ _ (c .before .before .before .before .before .before .before .if1 .taken)) refl (c .before .before .reselection .ensures)
 
 same-length-2 : tie.Need-same-length-2
 same-length-2 c = search needs
 
 returns-2 : tie.Need-returns-2
 unfolding isGood carried
-returns-2 c =
-    refused-image (Calls.reselection _) _ _ (c .before .read .ensures) (c .if2 .left)
+returns-2 c = not-standing (Calls.reselection _) _ (sym (c .before .is-image .ensures .0) ∙ c .if2 .left)
 
 returns-3 : tie.Need-returns-3
 unfolding isGood carried
-returns-3 c =
-    refused-operand (Calls.reselection _) _ (le-ltb _ _ (c .if1 .left))
+returns-3 c = refused-operand (Calls.reselection _) _ (le-ltb _ _ (c .if1 .left))
 
 pub am33c93a-reselection-spec : {M : Type 1} → statement M
 am33c93a-reselection-spec =
     tie.close
     (tie.spec
-    read-requires
-    cast-reselected
-    reselected-requires
-    finish-requires
+    is-image-requires
+    cast-reselection
+    reselection-requires
     same-length
     returns
     same-length-2
