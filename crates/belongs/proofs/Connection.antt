@@ -172,12 +172,12 @@ module _ (s : State) (i : interrupted s ≡ false) where
       So r = Sorted (time n) s (to r)
 
   answer-goes : Sorted answer s (to (E.answered s))
-  unfolding E.answered E.selects E.answeredSelecting E.answeredState E.connected raise outgoingDropped
+  unfolding E.answered E.answeredElsewhere E.selects E.answeredSelecting E.answeredState E.connected raise outgoingDropped
   answer-goes =
       by-case So _
       (λ x. let h : Goes answer s Connected = C.answers (both-second (isSelecting (place s)) _ x) (is-selecting _ (both-first _ _ x)) in
       by-pick So _ (inr h) (inr h))
-      (λ x. inl refl)
+      (λ x. by-pick So _ (inl refl) (inl refl))
     where
       So : Reply → Type 0
       So r = Sorted answer s (to r)

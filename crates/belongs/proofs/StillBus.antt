@@ -89,11 +89,12 @@ module _ (s : State) (i : interrupted s ≡ true) where
       (held-back (by-pick Holds _ refl (by-case Holds _ (λ w. clash w (not-awaited lines)) (λ w. holds _))))
 
   unread-stands : Stands s
-  unfolding E.passed E.answered E.reselected E.freed
+  unfolding E.passed E.answered E.answeredElsewhere E.reselected E.freed
   unread-stands =
       record {
         time = λ n. passed-over _ _ no-selection;
-        answer = by-case Back _ (λ x. clash x no-selection) (λ x. record { same = refl; refused = refl });
+        answer = by-case Back _ (λ x. clash x no-selection)
+            (λ x. by-pick Back _ (record { same = refl; refused = refl }) (record { same = refl; refused = refl }));
         reselection = λ lines. by-pick Back (qualifies lines s) (reselection-back lines) (record { same = refl; refused = refl });
         request = request-back;
         free = by-pick Back _ (held-back free-holds) (record { same = refl; refused = refl });

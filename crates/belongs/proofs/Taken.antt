@@ -132,12 +132,12 @@ module _ (s : State) (q : Quiet s) where
   Back r = Refuses s r
 
   answer-elsewhere : ((x : Connection) → Goes answer s x → ⊥) → Untouched step answer s
-  unfolding carried E.answered E.selects isGood
+  unfolding carried E.answered E.answeredElsewhere E.selects isGood
   answer-elsewhere n =
       refuses answer s (E.answered s) (good-step answer s refl)
       (by-case Back (E.selects s)
       (λ x. absurd (n Connected (C.answers (both-second (isSelecting (s .wire .connection)) _ x) (is-selecting _ (both-first _ _ x)))))
-      (λ x. record { same = refl; refused = refl }))
+      (λ x. by-pick Back _ (record { same = refl; refused = refl }) (record { same = refl; refused = refl })))
 
   reselection-elsewhere : (lines : ℕ) → ((x : Connection) → Goes (reselection lines) s x → ⊥) → Untouched step (reselection lines) s
   unfolding carried E.reselected

@@ -1,7 +1,7 @@
 // Answer: the Target takes the selection.
 ghost use mathlib.Core.Path.{_≡_};
 ghost use Rattle.chip.specs.Choice.{either};
-ghost use Rattle.chip.specs.Events.{answered, answeredSelecting, answeredState, connected};
+ghost use Rattle.chip.specs.Events.{answered, answeredElsewhere, answeredSelecting, answeredState, connected};
 use crate::time;
 use chip::Connection;
 use chip::Noted;
@@ -9,6 +9,7 @@ use chip::Reply;
 use chip::Seen;
 use chip::State;
 use state::activity;
+use state::connections;
 use state::set;
 
 pub fn connected(s: State) -> State
@@ -47,11 +48,23 @@ fn answered_selecting(s: State) -> Reply
     answers::done(0, interrupts::raise(0x11, t))
 }
 
+fn answered_elsewhere(s: State) -> Reply
+    ensures { λ r. ⌜ r ≡ answeredElsewhere s ⌝ }
+{
+    if connections::is_selecting(s) {
+        if interrupts::in_ending(s) {
+            return answers::held(s);
+        }
+        return answers::out_of_place(s);
+    }
+    answers::out_of_place(s)
+}
+
 pub fn answered(s: State) -> Reply
     ensures { λ r. ⌜ r ≡ answered s ⌝ }
 {
     if time::selects(s) {
         return answered_selecting(s);
     }
-    answers::out_of_place(s)
+    answered_elsewhere(s)
 }

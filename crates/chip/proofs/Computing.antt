@@ -41,7 +41,7 @@ unfolding Choice.pick Choice.both Choice.either Phases.phaseOf Lines.isOn Lines.
     Registers.lowWritten Registers.storedIn Registers.stored Registers.dataRead Registers.dataWritten Registers.readAt
     Registers.writtenAt Registers.stepped Registers.accessedAt Registers.accessed Registers.blockRead
     Registers.blockWritten Events.timedOut Events.selectionTime Events.selects Events.passed Events.connected
-    Events.answeredState Events.answeredSelecting Events.answered Events.reselectedState Events.reselectedWithCode
+    Events.answeredState Events.answeredSelecting Events.answeredElsewhere Events.answered Events.reselectedState Events.reselectedWithCode
     Events.namesTarget Events.reselectedApart Events.reselected Events.idleRequest Events.requestedRunning Events.requestedConnected Events.isServed
     Events.remembered Events.requested Events.busFree Events.idleFree Events.freedRunning Events.freed Calls.isGood Calls.carried
     Calls.step Calls.run

@@ -57,9 +57,12 @@ answeredSelecting s =
     pick (isSelectAndTransfer (s .activity)) (done 0 (setPhase 0x10 (answeredState s)))
     (done 0 (raise 0x11 (answeredState s)))
 
--- "only while selecting, else 2"
+-- no selection runs: "only while selecting, else 2". An image may say selecting in an ending, where "bus events are Held"
+unfoldable pub answeredElsewhere : State → Reply
+answeredElsewhere s = pick (both (isSelecting (s .wire .connection)) (inEnding s)) (held s) (outOfPlace s)
+
 unfoldable pub answered : State → Reply
-answered s = pick (selects s) (answeredSelecting s) (outOfPlace s)
+answered s = pick (selects s) (answeredSelecting s) (answeredElsewhere s)
 
 -- Reselection
 

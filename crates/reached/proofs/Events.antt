@@ -125,8 +125,8 @@ module _ (s : State) (g : Good s) where
       by-case Fine _ (λ x. time-by s (g .numbers) t (both-first _ _ x) (g .whole) (g .shape)) (λ x. g)
 
   pub answer-kept : Fine (answered s)
-  unfolding answered E.selects
-  answer-kept = by-case Fine _ (λ x. answer-by s (g .numbers) (both-first _ _ x) (g .whole) (g .shape)) (λ x. g)
+  unfolding answered E.answeredElsewhere E.selects
+  answer-kept = by-case Fine _ (λ x. answer-by s (g .numbers) (both-first _ _ x) (g .whole) (g .shape)) (λ x. by-pick Fine _ g g)
 
   pub reselection-kept : (lines : ℕ) → Fine (reselected lines s)
   unfolding reselected

@@ -74,7 +74,7 @@ module _ (s : State) where
 
   answer-same : {single : Bool} {n : ℕ} {x : Activity} {c : Connection} {d : Direction} {q : Fifo} {atn ack : Bool} {w : Noted}
       → Shape single n x c d q atn ack w → answeredBefore (being x c d q atn ack w s) ≡ answered (being x c d q atn ack w s)
-  unfolding answeredBefore answered answeredSelecting unlessInterrupt E.selects pick both
+  unfolding answeredBefore answered answeredSelecting E.answeredElsewhere unlessInterrupt E.selects pick both
   answer-same (idle unasked o h apart) = refl
   answer-same (idle told o h apart) = refl
   answer-same (idle unasked o h joined) = refl

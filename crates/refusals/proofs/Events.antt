@@ -6,7 +6,7 @@ use Prim.Native.Nat.{ℕ}
 use Rattle.chip.specs.Answers.{held}
 use Rattle.chip.specs.SelectAndTransfer.{freeToWait, freeAfterDisconnect, selectAndTransferFree}
 use Rattle.chip.specs.TransferInfo.{transferInfoFree}
-use Rattle.chip.specs.Events.{timedOut, selectionTime, passed, connected, answeredState, answeredSelecting, answered, reselectedState, reselectedWithCode, reselectedApart, reselected, busFree, idleFree, freedRunning, freed}
+use Rattle.chip.specs.Events.{timedOut, selectionTime, passed, connected, answeredState, answeredSelecting, answeredElsewhere, answered, reselectedState, reselectedWithCode, reselectedApart, reselected, busFree, idleFree, freedRunning, freed}
 use Rattle.chip.specs.Calls.{time, answer, reselection, free}
 use Rattle.chip.specs.declared.State.{State}
 use Rattle.chip.specs.declared.Reply.{Reply}
@@ -52,8 +52,8 @@ module _ (s : State) where
       by-pick Answering _ (passes refl (stands (h .shown) (h .beside))) (passes refl (then h (raise-count _ _)))
 
   pub answer-served : Served answer false s (answered s)
-  unfolding answered
-  answer-served = by-pick Answering _ answer-selecting (elsewhere refl refl)
+  unfolding answered answeredElsewhere
+  answer-served = by-pick Answering _ answer-selecting (by-pick Answering _ (holds refl refl) (elsewhere refl refl))
 
 -- ---- Reselection
 

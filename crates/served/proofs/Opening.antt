@@ -24,6 +24,6 @@ unfolding scenes Choice.pick Choice.both Choice.either Lines.er Lines.lunOf Line
     Commands.isValid Commands.selecting Commands.selectAndTransferBegun Commands.transferInfoBegun Commands.carriedOut Commands.accepted
     Commands.isRefusedBusy Commands.commanded Registers.pointerSet Registers.auxiliaryRead Registers.dataRead Registers.dataWritten Registers.isBlind Registers.readAt
     Registers.writtenAt Registers.stepped Registers.accessedAt Registers.accessed Events.selectionTime Events.selects Events.passed Events.connected
-    Events.answeredState Events.answeredSelecting Events.answered Events.idleRequest Events.requestedRunning Events.requestedConnected Events.remembered
+    Events.answeredState Events.answeredSelecting Events.answeredElsewhere Events.answered Events.idleRequest Events.requestedRunning Events.requestedConnected Events.remembered
     Events.requested Events.busFree Events.idleFree Events.freedRunning Events.freed Calls.isGood Calls.carried Calls.step
 steps = tt

@@ -61,13 +61,13 @@ passed-tells n s good =
     Says r = ToldReply (time n) s r
 
 pub answered-tells : (s : State) → ToldReply answer s (E.answered s)
-unfolding E.answered E.selects E.answeredSelecting E.answeredState E.connected raise outgoingDropped
+unfolding E.answered E.answeredElsewhere E.selects E.answeredSelecting E.answeredState E.connected raise outgoingDropped
 answered-tells s =
     by-case Says _
     (λ x. let on : goesOn (s .activity) ≡ true = both-second (isSelecting (s .wire .connection)) _ x in
     by-case Says _ (λ t. so (moves refl refl))
     (λ t. so (raises (going-open s on) (B.answers on (is-selecting _ (both-first _ _ x)) t) (gone refl))))
-    (λ x. so (silent (λ q. clash q x)))
+    (λ x. by-pick Says _ (so (silent (λ q. clash q x))) (so (silent (λ q. clash q x))))
   where
     Says : Reply → Type 0
     Says r = ToldReply answer s r

@@ -99,8 +99,10 @@ module _ (s : State) (e : inEnding s ≡ true) where
       second-fails _ _ (by-test (goesOn (s .activity)) (λ on. clash e (going-is-still (s .activity) on .1)) (λ on. on))
 
   answer-back : Back (E.answered s)
-  unfolding E.answered
-  answer-back = by-case Back _ (λ x. clash x no-selection) (λ x. record { same = refl; refused = refl })
+  unfolding E.answered E.answeredElsewhere
+  answer-back =
+      by-case Back _ (λ x. clash x no-selection)
+      (λ x. by-pick Back _ (record { same = refl; refused = refl }) (record { same = refl; refused = refl }))
 
   reselection-back : (lines : ℕ) → Back (pick (isConnected (s .wire .connection)) (outOfPlace s) (E.reselectedApart lines s))
   unfolding E.reselectedApart

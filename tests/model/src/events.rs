@@ -30,6 +30,10 @@ impl Controller {
 
     /// "Connected, ATN set for 06 and 08; for 06/07 code 11h; for 08/09 phase register 10h."
     pub(crate) fn target_answers(&mut self) -> Answer {
+        // An image may say selecting in an ending: "bus events are Held".
+        if self.connection == Connection::Selecting && self.is_ending() {
+            return Answer::Held;
+        }
         if !self.is_selecting() {
             return Answer::OutOfPlace;
         }

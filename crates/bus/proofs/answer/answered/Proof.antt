@@ -17,14 +17,19 @@ returns : tie.Need-returns
 unfolding answered pick
 returns c = simp (sym (c .before .before .selects .ensures) ∙ (c .before .if1 .taken), c .answered-selecting .ensures)
 
-out-of-place-requires : tie.Need-out-of-place-requires
-out-of-place-requires c κs = search needs
+answered-elsewhere-requires : tie.Need-answered-elsewhere-requires
+answered-elsewhere-requires c κs = search needs
 
 returns-2 : tie.Need-returns-2
 unfolding answered pick
-returns-2 c = simp (sym (c .before .before .selects .ensures) ∙ (c .before .if1 .left), c .out-of-place .ensures)
+returns-2 c = simp (sym (c .before .before .selects .ensures) ∙ (c .before .if1 .left), c .answered-elsewhere .ensures)
 
 pub answered-spec : {M : Type 1} → statement M
 answered-spec =
     tie.close
-    (tie.spec selects-requires answered-selecting-requires returns out-of-place-requires returns-2)
+    (tie.spec
+    selects-requires
+    answered-selecting-requires
+    returns
+    answered-elsewhere-requires
+    returns-2)
