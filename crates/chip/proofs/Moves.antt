@@ -1,6 +1,6 @@
 -- Where a byte moves and nothing else happens, this is what the rules come to.
 -- `plain-read`, `plain-write`: an access to one of 00 to 16h. `data-read`, `data-write`: one to the Data register.
--- `byte-taken`, `byte-sent`: a Request of Data In, of Data Out. `write-room`, `taken-room`: the FIFO has room for the byte.
+-- `byte-taken`, `byte-sent`: a Request of Data In, of Data Out; `in-held`, `out-held`: with the FIFO full, empty. `write-room`: it has room.
 use mathlib.Core.Path.{_≡_, refl, ap, sym, _∙_}
 use mathlib.Core.Bool.{Bool, true, false, not}
 use Prim.Native.Nat.{ℕ, _+_, _-_, _%_, _<_, _≤_}
@@ -9,6 +9,7 @@ use lib.Dec.{eqb, leb}
 use borrow.Author.Tests.{ltb-true, leb-true, eqb-true, not-true, lt-leb, ne-eqb}
 use Rattle.chip.specs.Choice.{pick, both, either}
 use Rattle.chip.specs.declared.State.{State}
+use Rattle.chip.specs.declared.Reply.{Reply}
 use Rattle.chip.specs.declared.Fifo.{Fifo}
 use Rattle.chip.specs.declared.Activity.{Activity}
 use Rattle.chip.specs.declared.Activity.the-variants.{Idle, Interrupt, Runs, Ends, ReadOut}
@@ -20,7 +21,7 @@ use Rattle.chip.specs.declared.Phase.{Phase}
 use Rattle.chip.specs.declared.Phase.the-variants.{DataOut, DataIn}
 use Rattle.chip.specs.declared.Noted.the-variants.{Was}
 use Rattle.chip.specs.State.{setPointer, setFifo, setPe, setSingle, setCount, setDirection, setPhase, setLast}
-use Rattle.chip.specs.Answers.{done}
+use Rattle.chip.specs.Answers.{done, held}
 use Rattle.chip.specs.Phases.{isNoted}
 use Rattle.chip.specs.Fifo.{isEmpty, hasRoom, front, pop, push}
 use Rattle.chip.specs.Count.{left, noneLeft, isLast, lowered, dbr, dbrBy}
@@ -34,7 +35,7 @@ use Rattle.chip.proofs.Cases.{by-test, taken as picked, passed-over, bo
 use Rattle.chip.specs.Activity.{isEnding, isSelectAndTransfer, isTransferInfo, goesOn}
 use Rattle.chip.proofs.Activities.{going-is-still}
 use Rattle.chip.specs.Interrupts.{isOutgoing}
-use Rattle.chip.specs.Moves.{isPlain, readsData, writesBy, writesData, isUnderWay, isBody, carriesIn, carriesOut, takesByte, sendsByte}
+use Rattle.chip.specs.Moves.{isPlain, readsData, writesBy, writesData, isUnderWay, isBody, carriesIn, carriesOut, takesData, sendsData}
 
 pub unless : (a b : Bool) → pick a false b ≡ true → (a ≡ false) × (b ≡ true)
 unfolding pick
@@ -287,18 +288,13 @@ module _ (s : State) (e : isUnderWay s ≡ true) where
   unfolding lowered
   lowered-is q = same s q (s .status .pe) false _ _ refl (sym no-one) lower
 
-  info-in : (b : ℕ) → isNoted DataIn (s .wire .seen .reported) ≡ true → hasRoom (s .fifo) ≡ true
-      → transferInfoRequest DataIn b false s ≡ done b (takenIn b false s)
-  unfolding transferInfoRequest transferInfoOffered unlessHalted transferInfoTaken pick both
-  info-in b n r = simp (n, some-left, r)
+  info-in : (b : ℕ) → isNoted DataIn (s .wire .seen .reported) ≡ true → transferInfoRequest DataIn b false s ≡ transferInfoOffered DataIn b false s
+  unfolding transferInfoRequest pick both
+  info-in b n = rw (n, some-left)
 
-  info-out : (b : ℕ) (bad : Bool) → isNoted DataOut (s .wire .seen .reported) ≡ true → isEmpty (s .fifo) ≡ false
-      → transferInfoRequest DataOut b bad s ≡ done (front (s .fifo)) (lowered (setFifo (pop (s .fifo)) s))
-  unfolding transferInfoRequest transferInfoSent atnAfter lowered pick both
-  info-out b bad n r =
-      let x : transferInfoRequest DataOut b bad s ≡ transferInfoSent DataOut s = rw (n, some-left) in
-      let y : transferInfoSent DataOut s ≡ done (front (s .fifo)) (lowered (setFifo (pop (s .fifo)) s)) = rw r in
-      x ∙ y
+  info-out : (b : ℕ) (bad : Bool) → isNoted DataOut (s .wire .seen .reported) ≡ true → transferInfoRequest DataOut b bad s ≡ transferInfoSent DataOut s
+  unfolding transferInfoRequest pick both
+  info-out b bad n = rw (n, some-left)
 
   in-is : (d : Direction) (b : ℕ) → d ≡ In → dataIn d b false s ≡ takeData b false s
   unfolding dataIn
@@ -321,16 +317,14 @@ module _ (s : State) (e : isUnderWay s ≡ true) where
       ap (setPhase (phaseAfter s)) (kept-direction u In (sym w)) in
       x ∙ y ∙ kept-phase u (phaseAfter s) phase-stays ∙ sym (taken-is b)
 
-  sat-in : (b : ℕ) → isIncoming (s .transfer .direction) ≡ true → isBody (stage s) ≡ true → hasRoom (s .fifo) ≡ true
-      → selectAndTransferRequest DataIn b false s ≡ done b (takenIn b false s)
-  unfolding selectAndTransferRequest requestAt bodyRequest unlessNoneLeft takeData unlessHalted pick both
-  sat-in b d x r =
-      let w : s .transfer .direction ≡ In = incoming-is _ d in
+  sat-in : (b : ℕ) → isIncoming (s .transfer .direction) ≡ true → isBody (stage s) ≡ true
+      → selectAndTransferRequest DataIn b false s ≡ takeData b false s
+  unfolding selectAndTransferRequest requestAt bodyRequest unlessNoneLeft pick
+  sat-in b d x =
       let k : selectAndTransferRequest DataIn b false s ≡ bodyRequest DataIn b false s =
       ap (λ (g : Stage). requestAt g DataIn b false s) (body-is (stage s) x) in
       let l : bodyRequest DataIn b false s ≡ dataIn (s .transfer .direction) b false s = rw some-left in
-      let m : takeData b false s ≡ done b (setPhase (phaseAfter s) (setDirection In (takenIn b false s))) = rw r in
-      k ∙ l ∙ in-is (s .transfer .direction) b w ∙ m ∙ ap (done b) (in-place b w)
+      k ∙ l ∙ in-is (s .transfer .direction) b (incoming-is _ d)
 
   out-place : (q : Fifo) → setPhase (phaseAfter s) (lowered (setFifo q s)) ≡ lowered (setFifo q s)
   out-place q =
@@ -340,64 +334,93 @@ module _ (s : State) (e : isUnderWay s ≡ true) where
       x ∙ kept-phase u (phaseAfter s) phase-stays ∙ sym (lowered-is q)
 
   sat-out : (b : ℕ) (bad : Bool) → isOutgoing (s .transfer .direction) ≡ true → isBody (stage s) ≡ true
-      → isEmpty (s .fifo) ≡ false
-      → selectAndTransferRequest DataOut b bad s ≡ done (front (s .fifo)) (lowered (setFifo (pop (s .fifo)) s))
-  unfolding selectAndTransferRequest requestAt bodyRequest unlessNoneLeft sendData pick
-  sat-out b bad d x r =
-      let w : s .transfer .direction ≡ Out = outgoing-is _ d in
+      → selectAndTransferRequest DataOut b bad s ≡ sendData s
+  unfolding selectAndTransferRequest requestAt bodyRequest unlessNoneLeft pick
+  sat-out b bad d x =
       let k : selectAndTransferRequest DataOut b bad s ≡ bodyRequest DataOut b bad s =
       ap (λ (g : Stage). requestAt g DataOut b bad s) (body-is (stage s) x) in
       let l : bodyRequest DataOut b bad s ≡ dataOut (s .transfer .direction) s = rw some-left in
-      let m : sendData s ≡ done (front (s .fifo)) (setPhase (phaseAfter s) (lowered (setFifo (pop (s .fifo)) s))) = rw r in
-      k ∙ l ∙ out-is (s .transfer .direction) w ∙ m ∙ ap (done (front (s .fifo))) (out-place (pop (s .fifo)))
+      k ∙ l ∙ out-is (s .transfer .direction) (outgoing-is _ d)
+
+  -- both commands give r
+  carried-in : (b : ℕ) (r : Reply) → carriesIn s ≡ true → (isIncoming (s .transfer .direction) ≡ true → takeData b false s ≡ r)
+      → transferInfoOffered DataIn b false s ≡ r → requestedRunning DataIn b false s ≡ r
+  unfolding requestedRunning carriesIn
+  carried-in b r c x y =
+      by-test (isSelectAndTransfer (s .activity))
+      (λ t. let d = sym (picked _ _ t) ∙ c in
+      picked _ _ t ∙ sat-in b (both-first _ _ d) (both-second (isIncoming (s .transfer .direction)) _ d) ∙ x (both-first _ _ d))
+      (λ t. let d = sym (passed-over _ _ t) ∙ c in
+      passed-over _ _ t ∙ picked _ _ (both-first _ _ d) ∙ info-in b (both-second (isTransferInfo (s .activity)) _ d) ∙ y)
+
+  carried-out : (b : ℕ) (bad : Bool) (r : Reply) → carriesOut s ≡ true → sendData s ≡ r → transferInfoSent DataOut s ≡ r
+      → requestedRunning DataOut b bad s ≡ r
+  unfolding requestedRunning carriesOut
+  carried-out b bad r c x y =
+      by-test (isSelectAndTransfer (s .activity))
+      (λ t. let d = sym (picked _ _ t) ∙ c in
+      picked _ _ t ∙ sat-out b bad (both-first _ _ d) (both-second (isOutgoing (s .transfer .direction)) _ d) ∙ x)
+      (λ t. let d = sym (passed-over _ _ t) ∙ c in
+      passed-over _ _ t ∙ picked _ _ (both-first _ _ d) ∙ info-out b bad (both-second (isTransferInfo (s .activity)) _ d) ∙ y)
 
   served-in : (b : ℕ) → carriesIn s ≡ true → hasRoom (s .fifo) ≡ true → requestedRunning DataIn b false s ≡ done b (takenIn b false s)
-  unfolding requestedRunning carriesIn
   served-in b c r =
-      by-test (isSelectAndTransfer (s .activity))
-      (λ t. let d = sym (picked _ _ t) ∙ c in picked _ _ t ∙ sat-in b (both-first _ _ d) (both-second (isIncoming (s .transfer .direction)) _ d) r)
-      (λ t. let d = sym (passed-over _ _ t) ∙ c in
-      passed-over _ _ t ∙ picked _ _ (both-first _ _ d) ∙ info-in b (both-second (isTransferInfo (s .activity)) _ d) r)
+      carried-in b _ c
+      (λ d. unfold takeData unlessHalted pick both in
+      let m : takeData b false s ≡ done b (setPhase (phaseAfter s) (setDirection In (takenIn b false s))) = rw r in
+      m ∙ ap (done b) (in-place b (incoming-is _ d)))
+      (unfold transferInfoOffered unlessHalted transferInfoTaken pick both in rw r)
+
+  full-held : (b : ℕ) → carriesIn s ≡ true → hasRoom (s .fifo) ≡ false → requestedRunning DataIn b false s ≡ held s
+  full-held b c r =
+      carried-in b _ c (λ d. unfold takeData in passed-over _ _ r) (unfold transferInfoOffered in passed-over _ _ r)
 
   served-out : (b : ℕ) (bad : Bool) → carriesOut s ≡ true → isEmpty (s .fifo) ≡ false
       → requestedRunning DataOut b bad s ≡ done (front (s .fifo)) (lowered (setFifo (pop (s .fifo)) s))
-  unfolding requestedRunning carriesOut
   served-out b bad c r =
-      by-test (isSelectAndTransfer (s .activity))
-      (λ t. let d = sym (picked _ _ t) ∙ c in
-      picked _ _ t ∙ sat-out b bad (both-first _ _ d) (both-second (isOutgoing (s .transfer .direction)) _ d) r)
-      (λ t. let d = sym (passed-over _ _ t) ∙ c in
-      passed-over _ _ t ∙ picked _ _ (both-first _ _ d) ∙ info-out b bad (both-second (isTransferInfo (s .activity)) _ d) r)
+      carried-out b bad _ c
+      (unfold sendData in passed-over _ _ r ∙ ap (done (front (s .fifo))) (out-place (pop (s .fifo))))
+      (unfold transferInfoSent atnAfter lowered pick both in rw r)
 
-module _ (s : State) (e : takesByte s ≡ true) where
+  empty-held : (b : ℕ) (bad : Bool) → carriesOut s ≡ true → isEmpty (s .fifo) ≡ true → requestedRunning DataOut b bad s ≡ held s
+  empty-held b bad c r = carried-out b bad _ c (unfold sendData in picked _ _ r) (unfold transferInfoSent in picked _ _ r)
+
+module _ (s : State) (e : takesData s ≡ true) where
   pub taking : isUnderWay s ≡ true
-  unfolding takesByte
+  unfolding takesData
   taking = both-first _ _ e
 
-  pub taken-room : hasRoom (s .fifo) ≡ true
-  unfolding takesByte
-  taken-room = both-second _ _ (both-second _ _ e)
+  carrying-in : carriesIn s ≡ true
+  unfolding takesData
+  carrying-in = both-second (isUnderWay s) _ e
 
-  pub byte-taken : (b : ℕ) → requested DataIn b false s
+  pub byte-taken : (b : ℕ) → hasRoom (s .fifo) ≡ true → requested DataIn b false s
       ≡ done b (setLast (Was DataIn) (setCount (s .registers .count - 1) (setFifo (push b (s .fifo)) s)))
-  unfolding takesByte remembered
-  byte-taken b =
-      served s taking DataIn b false
-      ∙ ap (remembered DataIn)
-      (served-in s taking b (both-first _ _ (both-second _ _ e)) taken-room
-      ∙ ap (done b) (taken-is s taking b))
+  unfolding remembered
+  byte-taken b r =
+      served s taking DataIn b false ∙ ap (remembered DataIn) (served-in s taking b carrying-in r ∙ ap (done b) (taken-is s taking b))
 
-module _ (s : State) (e : sendsByte s ≡ true) where
+  pub in-held : (b : ℕ) → hasRoom (s .fifo) ≡ false → requested DataIn b false s ≡ held s
+  unfolding remembered
+  in-held b r = served s taking DataIn b false ∙ ap (remembered DataIn) (full-held s taking b carrying-in r)
+
+module _ (s : State) (e : sendsData s ≡ true) where
   pub sending : isUnderWay s ≡ true
-  unfolding sendsByte
+  unfolding sendsData
   sending = both-first _ _ e
 
-  pub byte-sent : (b : ℕ) (bad : Bool) → requested DataOut b bad s
+  carrying-out : carriesOut s ≡ true
+  unfolding sendsData
+  carrying-out = both-second (isUnderWay s) _ e
+
+  pub byte-sent : (b : ℕ) (bad : Bool) → isEmpty (s .fifo) ≡ false → requested DataOut b bad s
       ≡ done (front (s .fifo)) (setLast (Was DataOut) (setCount (s .registers .count - 1) (setFifo (pop (s .fifo)) s)))
-  unfolding sendsByte remembered
-  byte-sent b bad =
+  unfolding remembered
+  byte-sent b bad r =
       served s sending DataOut b bad
       ∙ ap (remembered DataOut)
-      (served-out s sending b bad (both-first _ _ (both-second _ _ e))
-      (not-true _ (both-second _ _ (both-second _ _ e)))
-      ∙ ap (done (front (s .fifo))) (lowered-is s sending (pop (s .fifo))))
+      (served-out s sending b bad carrying-out r ∙ ap (done (front (s .fifo))) (lowered-is s sending (pop (s .fifo))))
+
+  pub out-held : (b : ℕ) (bad : Bool) → isEmpty (s .fifo) ≡ true → requested DataOut b bad s ≡ held s
+  unfolding remembered
+  out-held b bad r = served s sending DataOut b bad ∙ ap (remembered DataOut) (empty-held s sending b bad carrying-out r)

@@ -1,5 +1,5 @@
 -- When a byte moves and nothing else happens: the calls that a transfer of data lives on. They are no rules: each test says of a state
--- where the rules come down to one byte moved, and proofs/Moves.antt shows that they do. The C entries store only the bytes that change
+-- where the rules come down to one byte moved, or a Request Held, and proofs/Moves.antt shows that they do. The C entries store only the bytes that change
 -- where a test holds (room controller).
 use mathlib.Core.Bool.{Bool, true, false, not}
 use Prim.Native.Nat.{_%_}
@@ -12,7 +12,6 @@ use Rattle.chip.specs.declared.Direction.{Direction}
 use Rattle.chip.specs.declared.Direction.the-variants.{Unfixed, In, Out}
 use Rattle.chip.specs.declared.Phase.the-variants.{DataOut, DataIn}
 use Rattle.chip.specs.Phases.{isNoted}
-use Rattle.chip.specs.Fifo.{isEmpty, hasRoom}
 use Rattle.chip.specs.Interrupts.{busy, inEnding, bytesUnread, isIncoming, isOutgoing}
 use Rattle.chip.specs.Activity.{isSelectAndTransfer, isTransferInfo}
 use Rattle.chip.specs.Count.{dbr}
@@ -62,10 +61,10 @@ carriesOut s =
     pick (isSelectAndTransfer (s .activity)) (both (isOutgoing (s .transfer .direction)) (isBody (stage s)))
     (both (isTransferInfo (s .activity)) (isNoted DataOut (s .wire .seen .reported)))
 
--- a Request of Data In with good parity is taken into the FIFO, and nothing ends
-unfoldable pub takesByte : State → Bool
-takesByte s = both (isUnderWay s) (both (carriesIn s) (hasRoom (s .fifo)))
+-- a Request of Data In with good parity is taken into the FIFO, or Held where that is full, and nothing ends
+unfoldable pub takesData : State → Bool
+takesData s = both (isUnderWay s) (carriesIn s)
 
--- a Request of Data Out takes a byte from the FIFO, and nothing ends
-unfoldable pub sendsByte : State → Bool
-sendsByte s = both (isUnderWay s) (both (carriesOut s) (not (isEmpty (s .fifo))))
+-- a Request of Data Out takes a byte from the FIFO, or is Held where that is empty, and nothing ends
+unfoldable pub sendsData : State → Bool
+sendsData s = both (isUnderWay s) (carriesOut s)

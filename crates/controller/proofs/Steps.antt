@@ -8,18 +8,18 @@ use native.Mathlib.Nat.{zero-add}
 use native.Mathlib.Omega.{arith}
 use lib.Dec.{eqb, ltb}
 use lib.ListN.{length, getD, set, take, drop, length-set}
-use borrow.Author.Tests.{eq-eqb, ne-eqb, lt-ltb, eqb-true}
+use borrow.Author.Tests.{eq-eqb, ne-eqb, lt-ltb}
 use Rattle.chip.specs.Choice.{pick, both}
 use Rattle.chip.specs.Calls.{isSet}
 use Rattle.chip.specs.declared.State.{State}
 use Rattle.chip.specs.declared.Fifo.{Fifo}
 use Rattle.chip.specs.declared.Reply.{Reply}
-use Rattle.chip.specs.declared.Answer.the-variants.{Done, ReselectionIgnored}
+use Rattle.chip.specs.declared.Answer.the-variants.{Done, Held, ReselectionIgnored}
 use Rattle.chip.specs.declared.Phase.the-variants.{DataIn, DataOut}
 use Rattle.chip.specs.declared.Noted.the-variants.{Was}
 use Rattle.chip.specs.Answers.{done}
 use Rattle.chip.specs.Entries.{result}
-use Rattle.chip.specs.Fifo.{front, pop, push, fifoBytes, newestIn, Whole}
+use Rattle.chip.specs.Fifo.{isEmpty, hasRoom, front, pop, push, fifoBytes, newestIn, Whole}
 use Rattle.chip.specs.State.{fresh, setPointer, setFifo, setCount, setLast}
 use Rattle.chip.specs.Image.{imageOf, stateOf, imageLength, fifoPlace}
 use Rattle.chip.specs.Phases.{phaseOf}
@@ -32,12 +32,11 @@ use Rattle.image.specs.IsImage.{IsImage}
 use Rattle.chip.proofs.ImageFields.{fifo-stored}
 use Rattle.blocks.proofs.Blocks.{written-alone, written-bytes, read-alone}
 use Rattle.chip.proofs.ImageRegisters.{register-at, register-and-pointer}
-use Rattle.chip.specs.Moves.{isPlain, readsData, writesData, takesByte, sendsByte}
-use Rattle.chip.proofs.Moves.{unless, below, plain-read, plain-write, data-read, data-write, low, taking, byte-taken, sending, byte-sent}
+use Rattle.chip.specs.Moves.{isPlain, readsData, writesData, takesData, sendsData}
+use Rattle.chip.proofs.Moves.{below, plain-read, plain-write, data-read, data-write, low, taking, byte-taken, in-held, sending, byte-sent, out-held}
 use Rattle.controller.specs.Returns.{Returns, ReturnsMoved}
 use Rattle.controller.proofs.Entry.{long-enough, pick-true, pick-false, and-true, finished}
 use Rattle.controller.proofs.InPlace.{At, at-start, fits, state-is, put-pointer-at, put-last-at, put-low-at, put-fifo-at, put-newest-at}
-use Rattle.chip.proofs.Cases.{both-first, both-second}
 
 -- a reply as it is computed
 replied : (p r : Reply) (n : ℕ) (after : List ℕ) → p ≡ r → Returns r n after → Returns p n after
@@ -141,35 +140,37 @@ module _ (l : List ℕ) (o : IsImage l) where
       replied _ _ _ _ (data-write (stateOf l) d b)
       (record { number = refl; image = put-newest-at start after b g .image })
 
-  pub low-enough : takesByte (stateOf l) ≡ true → 2 ≤ stateOf l .registers .count % 256
+  pub low-enough : takesData (stateOf l) ≡ true → 2 ≤ stateOf l .registers .count % 256
   low-enough e = low (stateOf l) (taking (stateOf l) e)
 
-  pub low-enough-out : sendsByte (stateOf l) ≡ true → 2 ≤ stateOf l .registers .count % 256
+  pub low-enough-out : sendsData (stateOf l) ≡ true → 2 ≤ stateOf l .registers .count % 256
   low-enough-out e = low (stateOf l) (sending (stateOf l) e)
 
-  pub taken-made : (b v : ℕ) (t : State) (after after₂ after₃ : List ℕ) → takesByte (stateOf l) ≡ true
+  pub taken-made : (b v : ℕ) (t : State) (after after₂ after₃ : List ℕ) → takesData (stateOf l) ≡ true
+      → hasRoom (stateOf l .fifo) ≡ true
       → t ≡ pick (eqb (length l) imageLength) (stateOf l) fresh → v ≡ (t .registers .count - 1) % 256
       → after ≡ pick (eqb (length l) imageLength) (take fifoPlace l ++ newestIn b (drop fifoPlace l)) l
       → after₂ ≡ pick (eqb (length after) imageLength) (set after 20 v) after
       → after₃ ≡ pick (eqb (length after₂) imageLength) (set after₂ 37 2) after₂
       → Returns (requested DataIn b false (stateOf l)) (256 * b) after₃
-  taken-made b v t after after₂ after₃ d e h f g k =
+  taken-made b v t after after₂ after₃ d r e h f g k =
       let i = state-is l t o e in
       let n = low-enough d in
       let one : At after (setFifo (push b (stateOf l .fifo)) (stateOf l)) = put-newest-at start after b f in
       let v′ : v ≡ (stateOf l .registers .count - 1) % 256 = h ∙ ap (λ (x : State). (x .registers .count - 1) % 256) i in
       let two = put-low-at one after₂ (stateOf l .registers .count - 1) v v′ g (omega (arith, n)) in
-      replied _ _ _ _ (byte-taken (stateOf l) d b)
+      replied _ _ _ _ (byte-taken (stateOf l) d b r)
       (record { number = sym (zero-add _); image = put-last-at two after₃ 2 (Was DataIn) k refl .image })
 
-  pub sent-made : (b v : ℕ) (bad : Bool) (t : State) (q : Fifo) (x : ℕ) (after after₂ after₃ : List ℕ) → sendsByte (stateOf l) ≡ true
+  pub sent-made : (b v : ℕ) (bad : Bool) (t : State) (q : Fifo) (x : ℕ) (after after₂ after₃ : List ℕ) → sendsData (stateOf l) ≡ true
+      → isEmpty (stateOf l .fifo) ≡ false
       → t ≡ pick (eqb (length l) imageLength) (stateOf l) fresh → v ≡ (t .registers .count - 1) % 256
       → q ≡ pop (t .fifo) → x ≡ front (t .fifo)
       → after ≡ pick (eqb (length l) imageLength) (take fifoPlace l ++ fifoBytes q) l
       → after₂ ≡ pick (eqb (length after) imageLength) (set after 20 v) after
       → after₃ ≡ pick (eqb (length after₂) imageLength) (set after₂ 37 1) after₂
       → Returns (requested DataOut b bad (stateOf l)) (256 * x) after₃
-  sent-made b v bad t q x after after₂ after₃ d e h p y f g k =
+  sent-made b v bad t q x after after₂ after₃ d r e h p y f g k =
       let i = state-is l t o e in
       let n = low-enough-out d in
       let p′ : q ≡ pop (stateOf l .fifo) = p ∙ ap (λ (x : State). pop (x .fifo)) i in
@@ -178,7 +179,7 @@ module _ (l : List ℕ) (o : IsImage l) where
       let v′ : v ≡ (stateOf l .registers .count - 1) % 256 = h ∙ ap (λ (x : State). (x .registers .count - 1) % 256) i in
       let two = put-low-at one after₂ (stateOf l .registers .count - 1) v v′ g (omega (arith, n)) in
       let three = put-last-at two after₃ 1 (Was DataOut) k refl in
-      replied _ _ _ _ (byte-sent (stateOf l) d b bad)
+      replied _ _ _ _ (byte-sent (stateOf l) d b bad r)
       (record {
         number = ap (λ (x : ℕ). 256 * x) (y ∙ ap (λ (x : State). front (x .fifo)) i) ∙ sym (zero-add _);
         image = three .image ∙ ap (λ (r : Fifo). imageOf (setLast (Was DataOut) (setCount (stateOf l .registers .count - 1) (setFifo r (stateOf l))))) p′;
@@ -188,6 +189,10 @@ module _ (l : List ℕ) (o : IsImage l) where
   pub said : (P : State → Bool) (t : State) (r : Bool) → t ≡ pick (eqb (length l) imageLength) (stateOf l) fresh → r ≡ P t → r ≡ true
       → P (stateOf l) ≡ true
   said P t r e f h = sym (ap P (state-is l t o e)) ∙ sym f ∙ h
+
+  pub said-not : (P : State → Bool) (t : State) (r : Bool) → t ≡ pick (eqb (length l) imageLength) (stateOf l) fresh → r ≡ P t → r ≡ false
+      → P (stateOf l) ≡ false
+  said-not P t r e f h = sym (ap P (state-is l t o e)) ∙ sym f ∙ h
 
   -- a call made on the state, and the whole image written
   pub whole-made : (f : State → Reply) (t : State) (r : Reply) (n : ℕ) (after : List ℕ)
@@ -211,6 +216,14 @@ module _ (l : List ℕ) (o : IsImage l) where
   reselection-ignored lines t r n e f h m =
       let k : qualifies lines (stateOf l) ≡ false = sym (ap (qualifies lines) (state-is l t o e)) ∙ sym f ∙ h in
       replied _ _ _ _ (pick-false _ _ _ k) (record { number = m; image = start .image })
+
+  pub full-still : (b n : ℕ) → takesData (stateOf l) ≡ true → hasRoom (stateOf l .fifo) ≡ false → n ≡ result Held
+      → Returns (requested DataIn b false (stateOf l)) n l
+  full-still b n d r m = replied _ _ _ _ (in-held (stateOf l) d b r) (record { number = m; image = start .image })
+
+  pub empty-still : (b n : ℕ) (bad : Bool) → sendsData (stateOf l) ≡ true → isEmpty (stateOf l .fifo) ≡ true → n ≡ result Held
+      → Returns (requested DataOut b bad (stateOf l)) n l
+  empty-still b n bad d r m = replied _ _ _ _ (out-held (stateOf l) d b bad r) (record { number = m; image = start .image })
 
   -- block moves: k and u are the number moved and the state then, as the code has them
 
@@ -266,23 +279,15 @@ module _ (l : List ℕ) (o : IsImage l) where
 
 -- which Request it is
 
-pub takes-is : (p : ℕ) (bad x : Bool) → both (eqb p 1) (pick bad false x) ≡ true → (p ≡ 1) × (bad ≡ false) × (x ≡ true)
-takes-is p bad x e =
-    let r = unless bad x (both-second _ _ e) in
-    (eqb-true p 1 (both-first _ _ e), r .0, r .1)
-
-pub sends-is : (p : ℕ) (x : Bool) → both (eqb p 0) x ≡ true → (p ≡ 0) × (x ≡ true)
-sends-is p x e = (eqb-true p 0 (both-first _ _ e), both-second _ _ e)
-
-pub taken-request : (p b n : ℕ) (bad : Bool) (s : State) (after : List ℕ) → p ≡ 1 → bad ≡ false
+pub in-request : (p b n : ℕ) (bad : Bool) (s : State) (after : List ℕ) → p ≡ 1 → bad ≡ false
     → Returns (requested DataIn b false s) n after → Returns (requested (phaseOf p) b bad s) n after
 unfolding phaseOf pick
-taken-request p b n bad s after e f m = rw (e, f) m
+in-request p b n bad s after e f m = rw (e, f) m
 
-pub sent-request : (p b n : ℕ) (bad : Bool) (s : State) (after : List ℕ) → p ≡ 0
+pub out-request : (p b n : ℕ) (bad : Bool) (s : State) (after : List ℕ) → p ≡ 0
     → Returns (requested DataOut b bad s) n after → Returns (requested (phaseOf p) b bad s) n after
 unfolding phaseOf pick
-sent-request p b n bad s after e m = rw e m
+out-request p b n bad s after e m = rw e m
 
 -- a read asks for no byte
 pub read-alike : (b : ℕ) (s : State) → accessed false b s ≡ accessed false 0 s

@@ -7,16 +7,16 @@ ghost use mathlib.Core.List.{_++_};
 ghost use lib.ListN.{length, take};
 ghost use mathlib.Core.Path.{_≡_};
 ghost use Rattle.chip.specs.Calls.{isSet};
-ghost use Rattle.chip.specs.Choice.{both, pick};
+ghost use Rattle.chip.specs.Choice.{pick};
 ghost use Rattle.chip.specs.Entries.{result};
 ghost use Rattle.chip.specs.Events.{passed, requested, reselected};
-ghost use Rattle.chip.specs.Fifo.{fifoBytes};
+ghost use Rattle.chip.specs.Fifo.{fifoBytes, hasRoom, isEmpty};
 ghost use Rattle.chip.specs.Image.{fifoPlace, imageLength, stateOf};
 ghost use Rattle.chip.specs.Phases.{phaseOf};
 ghost use Rattle.chip.specs.Registers.{accessed, auxiliaryRead, blockRead, blockWritten, pointerRead, pointerSet};
 ghost use Rattle.controller.specs.Returns.{Returns, ReturnsMoved};
 ghost use Rattle.image.specs.IsImage.{IsImage};
-ghost use Rattle.chip.specs.Moves.{isPlain, readsData, sendsByte, takesByte};
+ghost use Rattle.chip.specs.Moves.{isPlain, readsData, sendsData, takesData};
 use crate::finish;
 use blocks::Moved;
 use bus::request;
@@ -149,7 +149,7 @@ fn low_after(s: State) -> u8
 
 // A byte of Data In, into the FIFO.
 fn byte_taken(byte: u8, image: &mut [u8]) -> u32
-    requires { ⌜ IsImage (now image) × (takesByte (stateOf (now image)) ≡ true) ⌝ }
+    requires { ⌜ IsImage (now image) × (takesData (stateOf (now image)) ≡ true) × (hasRoom (stateOf (now image) .fifo) ≡ true) ⌝ }
     ensures { λ r. ⌜ Returns (requested Phase.DataIn byte false (stateOf (now (image .entry)))) r (now (image .exit)) ⌝ }
 {
     let s = image::state(image);
@@ -162,7 +162,7 @@ fn byte_taken(byte: u8, image: &mut [u8]) -> u32
 
 // A byte of Data Out, from the FIFO.
 fn byte_sent(byte: u8, bad: bool, image: &mut [u8]) -> u32
-    requires { ⌜ IsImage (now image) × (sendsByte (stateOf (now image)) ≡ true) ⌝ }
+    requires { ⌜ IsImage (now image) × (sendsData (stateOf (now image)) ≡ true) × (isEmpty (stateOf (now image) .fifo) ≡ false) ⌝ }
     ensures { λ r. ⌜ Returns (requested Phase.DataOut byte bad (stateOf (now (image .entry)))) r (now (image .exit)) ⌝ }
 {
     let s = image::state(image);
@@ -174,37 +174,48 @@ fn byte_sent(byte: u8, bad: bool, image: &mut [u8]) -> u32
     256 * (fifo::front(q) as u32)
 }
 
-fn takes(phase: u8, bad: bool, s: State) -> bool
-    ensures { λ r. ⌜ r ≡ both (eqb phase 1) (pick bad false (takesByte s)) ⌝ }
+// A Request of Data In with good parity.
+fn request_in(byte: u8, image: &mut [u8]) -> u32
+    requires { ⌜ IsImage (now image) ⌝ }
+    ensures { λ r. ⌜ Returns (requested Phase.DataIn byte false (stateOf (now (image .entry)))) r (now (image .exit)) ⌝ }
 {
-    if phase == 1 {
-        if bad {
-            return false;
+    let s = image::state(image);
+    if moves::takes_data(s) {
+        if moves::has_room(s) {
+            return byte_taken(byte, image);
         }
-        return moves::takes_byte(s);
+        return answers::result(Answer::Held);
     }
-    false
+    request_whole(1, byte, false, image)
 }
 
-fn sends(phase: u8, s: State) -> bool
-    ensures { λ r. ⌜ r ≡ both (eqb phase 0) (sendsByte s) ⌝ }
+// A Request of Data Out.
+fn request_out(byte: u8, bad: bool, image: &mut [u8]) -> u32
+    requires { ⌜ IsImage (now image) ⌝ }
+    ensures { λ r. ⌜ Returns (requested Phase.DataOut byte bad (stateOf (now (image .entry)))) r (now (image .exit)) ⌝ }
 {
-    if phase == 0 {
-        return moves::sends_byte(s);
+    let s = image::state(image);
+    if moves::sends_data(s) {
+        if moves::has_byte(s) {
+            return byte_sent(byte, bad, image);
+        }
+        return answers::result(Answer::Held);
     }
-    false
+    request_whole(0, byte, bad, image)
 }
 
 pub(crate) fn request(phase: u8, byte: u8, bad: bool, image: &mut [u8]) -> u32
     requires { ⌜ IsImage (now image) ⌝ }
     ensures { λ r. ⌜ Returns (requested (phaseOf phase) byte bad (stateOf (now (image .entry)))) r (now (image .exit)) ⌝ }
 {
-    let s = image::state(image);
-    if takes(phase, bad, s) {
-        return byte_taken(byte, image);
+    if phase == 0 {
+        return request_out(byte, bad, image);
     }
-    if sends(phase, s) {
-        return byte_sent(byte, bad, image);
+    if phase == 1 {
+        if bad {
+            return request_whole(phase, byte, bad, image);
+        }
+        return request_in(byte, image);
     }
     request_whole(phase, byte, bad, image)
 }

@@ -7,7 +7,7 @@ ghost use mathlib.Core.Path.{_≡_};
 ghost use Rattle.chip.specs.Choice.{both};
 ghost use Rattle.chip.specs.Fifo.{hasRoom, isEmpty};
 ghost use Rattle.chip.specs.Interrupts.{isIncoming, isOutgoing};
-ghost use Rattle.chip.specs.Moves.{carriesIn, carriesOut, isBody, isPlain, isUnderWay, readsData, sendsByte, takesByte, writesBy, writesData};
+ghost use Rattle.chip.specs.Moves.{carriesIn, carriesOut, isBody, isPlain, isUnderWay, readsData, sendsData, takesData, writesBy, writesData};
 ghost use Rattle.chip.specs.Phases.{isNoted};
 ghost use Rattle.chip.specs.Activity.{isTransferInfo};
 ghost use Rattle.chip.specs.SelectAndTransfer.{stage};
@@ -152,42 +152,36 @@ fn carries_out(s: State) -> bool
     transfer_info_in(Phase::DataOut, s)
 }
 
-fn has_room(s: State) -> bool
+pub fn has_room(s: State) -> bool
     ensures { λ r. ⌜ r ≡ hasRoom (s .fifo) ⌝ }
 {
     let q = s.fifo;
     fifo::has_room(q)
 }
 
-fn has_byte(s: State) -> bool
+pub fn has_byte(s: State) -> bool
     ensures { λ r. ⌜ r ≡ not (isEmpty (s .fifo)) ⌝ }
 {
     let q = s.fifo;
     fifo::has_byte(q)
 }
 
-// A Request of Data In with good parity is taken into the FIFO, and nothing ends.
-pub fn takes_byte(s: State) -> bool
-    ensures { λ r. ⌜ r ≡ takesByte s ⌝ }
+// A Request of Data In with good parity is taken into the FIFO, or Held where that is full, and nothing ends.
+pub fn takes_data(s: State) -> bool
+    ensures { λ r. ⌜ r ≡ takesData s ⌝ }
 {
     if is_under_way(s) {
-        if carries_in(s) {
-            return has_room(s);
-        }
-        return false;
+        return carries_in(s);
     }
     false
 }
 
-// A Request of Data Out takes a byte from the FIFO, and nothing ends.
-pub fn sends_byte(s: State) -> bool
-    ensures { λ r. ⌜ r ≡ sendsByte s ⌝ }
+// A Request of Data Out takes a byte from the FIFO, or is Held where that is empty, and nothing ends.
+pub fn sends_data(s: State) -> bool
+    ensures { λ r. ⌜ r ≡ sendsData s ⌝ }
 {
     if is_under_way(s) {
-        if carries_out(s) {
-            return has_byte(s);
-        }
-        return false;
+        return carries_out(s);
     }
     false
 }

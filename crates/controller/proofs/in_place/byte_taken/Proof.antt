@@ -27,7 +27,7 @@ same-length : tie.Need-same-length
 same-length c = search needs
 
 returns : tie.Need-returns
-returns c = taken-made _ (c .before .before .before .before .before .before .before .before .before .before .before .before .before .before .before .before .pre .0) _ _ _ _ _ _ (c .before .before .before .before .before .before .before .before .before .before .before .before .before .before .before .before .pre .1) (c .before .before .before .before .before .before .before .before .before .before .before .before .before .state .ensures) (c .before .before .before .before .before .before .before .before .before .before .before .before .low-after .ensures) (c .before .before .before .before .before .before .before .before .before .before .newest .ensures) (c .before .before .before .before .before .before .count-low .ensures) (c .before .before .last .ensures)
+returns c = taken-made _ (c .before .before .before .before .before .before .before .before .before .before .before .before .before .before .before .before .pre .0) _ _ _ _ _ _ (c .before .before .before .before .before .before .before .before .before .before .before .before .before .before .before .before .pre .1) (c .before .before .before .before .before .before .before .before .before .before .before .before .before .before .before .before .pre .2) (c .before .before .before .before .before .before .before .before .before .before .before .before .before .state .ensures) (c .before .before .before .before .before .before .before .before .before .before .before .before .low-after .ensures) (c .before .before .before .before .before .before .before .before .before .before .newest .ensures) (c .before .before .before .before .before .before .count-low .ensures) (c .before .before .last .ensures)
 
 pub byte-taken-spec : {M : Type 1} → statement M
 byte-taken-spec =
