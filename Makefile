@@ -59,6 +59,7 @@ build/%/libam33c93a.a: build/module.ll tools/native-lib tools/targets/% include/
 test:
 	@mkdir -p build
 	@rt fmt --check
+	@tests/edits texts
 	@rt ci > build/ci.log 2>&1 || { cat build/ci.log; exit 1; }
 	@tests/edits
 	@$(MAKE) --no-print-directory outside
