@@ -1,6 +1,6 @@
-/* A plain C model of the first version of paper 01 (see plain.h). The words in quotes are the paper's; those marked R are of
- * the readings of its open places, 02 those of paper 02. INT is never asked for where a command runs: "no sequence of calls from a fresh
- * state has BSY and INT both set" (02, Req 14). */
+/* A plain C model of paper 01 and of paper 02's requests 01 and 14 (see plain.h). The words in quotes are the paper's; those
+ * marked R are of the readings of its open places, 02 those of paper 02. INT is never asked for where a command runs: "no
+ * sequence of calls from a fresh state has BSY and INT both set" (02, Req 14). */
 #include "plain.h"
 #include "am33c93a.h"
 
@@ -243,6 +243,48 @@ static void transfer_info(struct plain *p, bool single_byte)
     p->direction = p->reported & 1 ? PLAIN_IN : PLAIN_OUT; /* "Odd p comes in." */
 }
 
+/* The largest disk that Translate Address takes with spares. */
+enum { MOST_CYLINDERS = 4096, MOST_HEADS = 15 };
+
+static uint32_t two_bytes(const struct plain *p, unsigned at)
+{
+    return (uint32_t)p->stored[at] << 8 | p->stored[at + 1];
+}
+
+/* "Code 45h, with those registers unchanged, when a divisor is zero, or the head or cylinder reached is not below its total; with
+ * spares also when cylinders exceed 4096 or heads exceed 15." (02, Req 01) The quotients are compared whole (R). */
+static bool find_place(const struct plain *p, uint32_t *sector, uint32_t *head, uint32_t *cylinder)
+{
+    uint32_t sectors = p->stored[AM33C93A_TOTAL_SECTORS], heads = p->stored[AM33C93A_TOTAL_HEADS];
+    uint32_t cylinders = two_bytes(p, AM33C93A_TOTAL_CYLINDERS);
+    uint32_t address = two_bytes(p, AM33C93A_LOGICAL_ADDRESS) << 16 | two_bytes(p, AM33C93A_LOGICAL_ADDRESS + 2);
+    uint32_t sectors_of_cylinder = sectors * heads;
+    if (p->stored[AM33C93A_HEAD_NUMBER] != 0) { /* "With 0Ch zero, [...] sectors times heads; otherwise they are 0D/0Eh" */
+        if (cylinders > MOST_CYLINDERS || heads > MOST_HEADS) return false;
+        sectors_of_cylinder = two_bytes(p, AM33C93A_CYLINDER_NUMBER);
+    }
+    if (sectors_of_cylinder == 0 || sectors == 0) return false;
+    *cylinder = address / sectors_of_cylinder;
+    *head = address % sectors_of_cylinder / sectors;
+    *sector = address % sectors_of_cylinder % sectors;
+    return *head < heads && *cylinder < cylinders;
+}
+
+/* "Sector (from 0) goes to 0Bh, head to 0Ch, cylinder to 0D/0Eh, code 15h." (02, Req 01) It is done inside the write (R). */
+static void translate_address(struct plain *p)
+{
+    uint32_t sector, head, cylinder;
+    if (!find_place(p, &sector, &head, &cylinder)) {
+        raise_code(p, AM33C93A_CODE_OFF_DISK);
+        return;
+    }
+    p->stored[AM33C93A_SECTOR_NUMBER] = (uint8_t)sector;
+    p->stored[AM33C93A_HEAD_NUMBER] = (uint8_t)head;
+    p->stored[AM33C93A_CYLINDER_NUMBER] = (uint8_t)(cylinder >> 8);
+    p->stored[AM33C93A_CYLINDER_NUMBER + 1] = (uint8_t)cylinder;
+    raise_code(p, AM33C93A_CODE_TRANSLATED);
+}
+
 static bool is_level_one(uint8_t code)
 {
     return (code >= AM33C93A_ABORT && code <= AM33C93A_DISCONNECT) || code == AM33C93A_SET_IDI;
@@ -277,7 +319,8 @@ static bool is_valid(const struct plain *p, uint8_t code)
     case AM33C93A_DISCONNECT: return connected;
     case AM33C93A_SET_IDI: return connected || p->connection == PLAIN_WAITING;
     case AM33C93A_SELECT_WITH_ATN:
-    case AM33C93A_SELECT: return p->connection == PLAIN_DISCONNECTED;
+    case AM33C93A_SELECT:
+    case AM33C93A_TRANSLATE_ADDRESS: return p->connection == PLAIN_DISCONNECTED;
     case AM33C93A_SELECT_TRANSFER_WITH_ATN:
     case AM33C93A_SELECT_TRANSFER: return connected ? is_resumable(p) : cdb_size(p) != 0;
     case AM33C93A_TRANSFER_INFO: return connected && !p->held_ack && p->reported != PLAIN_NO_PHASE;
@@ -297,6 +340,7 @@ static void perform(struct plain *p, uint8_t command)
     case AM33C93A_SELECT_TRANSFER_WITH_ATN: select_and_transfer(p, PLAIN_SELECT_TRANSFER_WITH_ATN); break;
     case AM33C93A_SELECT_TRANSFER: select_and_transfer(p, PLAIN_SELECT_TRANSFER); break;
     case AM33C93A_SET_IDI: p->stored[AM33C93A_CONTROL] |= IDI; break;
+    case AM33C93A_TRANSLATE_ADDRESS: translate_address(p); break;
     case AM33C93A_TRANSFER_INFO: transfer_info(p, command & AM33C93A_SINGLE_BYTE); break;
     }
 }

@@ -1,6 +1,6 @@
-/* A plain C model of the first version of paper 01: the yardstick of bench.c and the reference of tests/differential.c.
- * It is written from the paper and its readings alone, and knows nothing of images. Operands and results are those of the
- * entries in am33c93a.h: the answer's number in bits 0 to 7, its value from bit 8 up. */
+/* A plain C model of paper 01 and of paper 02's requests 01 and 14: the yardstick of bench.c and the reference of
+ * tests/differential.c. It is written from the papers and their readings alone, and knows nothing of images. Operands and
+ * results are those of the entries in am33c93a.h: the answer's number in bits 0 to 7, its value from bit 8 up. */
 #ifndef PLAIN_H
 #define PLAIN_H
 

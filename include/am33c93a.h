@@ -94,7 +94,19 @@ enum {
     AM33C93A_DATA = 0x19            /* the FIFO's end for the host */
 };
 
-/* Commands; bit 7 asks 20h for a single byte. */
+/* The registers of Translate Address, where the command bytes stand otherwise; numbers of two and four bytes high byte first. 15h writes the
+ * place over 0Ch to 0Eh, so they are written anew before the next address. */
+enum {
+    AM33C93A_TOTAL_SECTORS = 0x03,   /* on a track */
+    AM33C93A_TOTAL_HEADS = 0x04,
+    AM33C93A_TOTAL_CYLINDERS = 0x05, /* two bytes */
+    AM33C93A_LOGICAL_ADDRESS = 0x07, /* four bytes */
+    AM33C93A_SECTOR_NUMBER = 0x0b,   /* of the place, from 0 */
+    AM33C93A_HEAD_NUMBER = 0x0c,     /* of the place; before: 0 if no sectors are spares */
+    AM33C93A_CYLINDER_NUMBER = 0x0d  /* two bytes, of the place; before, with spares: the sectors on a cylinder beside them */
+};
+
+/* Commands; bit 7 asks 20h for a single byte, and is nothing to the others. */
 enum {
     AM33C93A_RESET = 0x00,                   /* always taken */
     AM33C93A_ABORT = 0x01,                   /* ends the running command */
@@ -106,6 +118,7 @@ enum {
     AM33C93A_SELECT_TRANSFER_WITH_ATN = 0x08, /* a whole SCSI command; while connected: resume */
     AM33C93A_SELECT_TRANSFER = 0x09,         /* the same without ATN */
     AM33C93A_SET_IDI = 0x0f,                 /* sets IDI only */
+    AM33C93A_TRANSLATE_ADDRESS = 0x18,       /* while Disconnected; 15h or 45h at once */
     AM33C93A_TRANSFER_INFO = 0x20,           /* bytes of the reported phase */
     AM33C93A_SINGLE_BYTE = 0x80              /* with TRANSFER_INFO: one byte */
 };
@@ -126,6 +139,7 @@ enum {
 enum {
     AM33C93A_CODE_RESET = 0x00,             /* Reset is done */
     AM33C93A_CODE_SELECTED = 0x11,          /* the Target answered a Select */
+    AM33C93A_CODE_TRANSLATED = 0x15,        /* the place of the address stands at 0Bh to 0Eh */
     AM33C93A_CODE_COMPLETE = 0x16,          /* a Select-And-Transfer came to its end */
     AM33C93A_CODE_TRANSFERRED_PHASE = 0x18, /* Transfer Info is over, and this phase is asked for next */
     AM33C93A_CODE_MESSAGE_IN = 0x20,        /* the last Message In byte came; ACK is held */
@@ -136,6 +150,7 @@ enum {
     AM33C93A_CODE_GONE = 0x41,              /* the Target left in the middle */
     AM33C93A_CODE_TIMEOUT = 0x42,           /* nobody answered the selection in time */
     AM33C93A_CODE_PARITY = 0x43,            /* bad parity, with HSP; ACK is held */
+    AM33C93A_CODE_OFF_DISK = 0x45,          /* the address has no place on the disk; no register is written */
     AM33C93A_CODE_UNEXPECTED_PHASE = 0x48,  /* this phase came unexpected */
     AM33C93A_CODE_RESELECTED = 0x80,        /* a Target reselected us */
     AM33C93A_CODE_DISCONNECTED = 0x85,      /* the Target freed the bus */

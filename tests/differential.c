@@ -1,11 +1,12 @@
-/* The library against the plain C model of paper 01 (bench/plain.c): the same calls to both, from fresh, and everything that a
+/* The library against the plain C model of the papers (bench/plain.c): the same calls to both, from fresh, and everything that a
  * host can see compared. Most episodes are played by a host and a Target that mostly behave; the others are calls at random.
  *
  *     gcc -O2 -std=c11 -Wall -Wextra -Werror -Iinclude -o differential tests/differential.c bench/plain.c libam33c93a.a
  *     differential [SEED [CALLS [-v]]]
  *
  * The last line is 'differential: seed S, N calls, 0 differences'. -v adds the answers and codes seen, for each kind of call.
- * On a difference a shortest list of calls that still differs is sought and printed, and the exit status is 1. */
+ * On a difference a shortest list of calls that still differs is sought and printed, and the exit status is 1. It is 1 too where
+ * a million calls or more did not raise every code of the papers, or raised another: they compared too little. */
 #include <stdbool.h>
 #include <stdint.h>
 #include <stdio.h>
@@ -15,7 +16,7 @@
 #include "../bench/plain.h"
 
 enum kind { POINTER, AUXILIARY, REGISTER, BLOCK, TIME, ANSWER, RESELECTION, REQUEST, FREE, LINES, KINDS };
-enum { LONGEST = 3000, SLICE = 64, READ = 0, WRITE = 1 };
+enum { LONGEST = 3000, SLICE = 64, READ = 0, WRITE = 1, ENOUGH = 1000000 };
 
 static const char *const kind_names[KINDS] = {"pointer", "auxiliary",   "register", "block", "time",
                                               "answer",  "reselection", "request",  "free",  "lines"};
@@ -232,6 +233,12 @@ static void write_register(uint32_t address, uint32_t byte)
     push((struct call){.kind = REGISTER, .a = WRITE, .b = byte});
 }
 
+/* A number of so many bytes, the high one first, from where the pointer stands. */
+static void write_next(uint32_t number, unsigned bytes)
+{
+    while (bytes-- > 0) push((struct call){.kind = REGISTER, .a = WRITE, .b = number >> 8 * bytes & 255});
+}
+
 static void command(uint32_t code)
 {
     write_register(AM33C93A_COMMAND, chance(5) ? code ^ AM33C93A_SINGLE_BYTE : code);
@@ -263,7 +270,8 @@ static void block(uint32_t mark)
 
 static uint32_t random_command(void)
 {
-    return ONE_OF(0, 1, 1, 2, 2, 3, 3, 4, 6, 7, 8, 8, 9, 0x0f, 0x20, 0x20, 0xa0, 0x05, 0x0a, 0x21, 0x22, 0x7f, 0x80, below(256));
+    return ONE_OF(0, 1, 1, 2, 2, 3, 3, 4, 6, 7, 8, 8, 9, 0x0f, 0x18, 0x18, 0x98, 0x20, 0x20, 0xa0, 0x05, 0x0a, 0x21, 0x22, 0x7f,
+                  0x80, below(256));
 }
 
 static uint32_t wild(void)
@@ -314,15 +322,14 @@ static struct call noise(void)
 static void load_count(void)
 {
     uint32_t n = ONE_OF(0, 1, 1, 2, 3, 5, 11, 12, 13, 14, below(40), below(40), 0x100 + below(3), 0x10000 + below(3));
-    write_register(AM33C93A_COUNT_HIGH, n >> 16);
-    push((struct call){.kind = REGISTER, .a = WRITE, .b = n >> 8 & 255});
-    push((struct call){.kind = REGISTER, .a = WRITE, .b = n & 255});
+    point(AM33C93A_COUNT_HIGH);
+    write_next(n, 3);
 }
 
 static void command_bytes(void)
 {
     write_register(AM33C93A_CDB_1, chance(85) ? ONE_OF(0, 1, 1, 5) << 5 | below(32) : below(256));
-    for (uint32_t n = below(12); n > 0; n--) push((struct call){.kind = REGISTER, .a = WRITE, .b = below(256)});
+    for (uint32_t n = below(12); n > 0; n--) write_next(below(256), 1);
 }
 
 static void phase_register(void)
@@ -383,6 +390,97 @@ static void move_data(const struct plain *m)
     for (uint32_t n = below(4); n > 0; n--) push((struct call){.kind = REGISTER, .a = mark, .b = below(256)});
 }
 
+/* The host of a bare drive: Translate Address (paper 02, Req 01), at both sides of each limit. */
+
+/* Registers 03, 04, 05/06, 07 to 0Ah, 0Ch and 0D/0Eh. */
+struct drive {
+    uint32_t sectors, heads, cylinders, address, spares, per_cylinder;
+};
+
+/* What chance would seldom put together. */
+static const struct drive corner_drives[] = {
+    {255, 255, 0xffff, 255u * 255 * 0xffff - 1, 0, 0}, /* the largest address that lies on any drive */
+    {255, 255, 0xffff, 255u * 255 * 0xffff, 0, 0},     /* and the next */
+    {255, 15, 4096, 4095u * 0xffff + 3824, 1, 0xffff}, /* the largest with spares */
+    {255, 15, 4096, 4095u * 0xffff + 3825, 1, 0xffff}, /* and the next */
+    {1, 1, 0xffff, 0xfffe, 0, 0},                      /* the last cylinder of 65535 */
+    {1, 1, 0xffff, 0xffff, 0, 0},                      /* and the next */
+    {1, 1, 0xffff, 0x10000, 0, 0},                     /* cut to 16 bits this would be cylinder 0 */
+    {1, 15, 4096, 0x100, 1, 0xffff},                   /* cut to 8 bits this would be head 0 */
+    {0, 15, 4096, 0, 1, 100},                          /* a divisor is zero, though nothing is left to divide */
+    {17, 4, 615, 0, 1, 0},                             /* the other divisor is zero */
+};
+
+static uint32_t some_address(const struct drive *d)
+{
+    uint32_t all = d->sectors * d->heads, per = d->spares ? d->per_cylinder : all, used = per < all ? per : all;
+    uint32_t cylinder = below(d->cylinders) * per, last = (d->cylinders - 1) * per;
+    switch (below(10)) {
+    case 0: return 0;
+    case 1: return last + used - 1;                            /* the last address that fits */
+    case 2: return last + used;                                /* the next */
+    case 3: return last + per;                                 /* one cylinder too many */
+    case 4: return cylinder + all - below(2);                  /* one head too many, or just not */
+    case 5: return (0x10000 + below(3)) * per + below(per);    /* a cylinder of more than 16 bits */
+    case 6: return cylinder + 0x100 * d->sectors + below(all); /* a head of more than 8 bits */
+    case 7: return any();
+    default: return cylinder + below(used);
+    }
+}
+
+static struct drive some_drive(void)
+{
+    if (chance(15)) return corner_drives[below(sizeof corner_drives / sizeof corner_drives[0])];
+    struct drive d;
+    d.sectors = chance(3) ? 0 : ONE_OF(1, 2, 17, 32, 63, 255, below(256));
+    d.heads = chance(3) ? 0 : ONE_OF(1, 2, 8, 15, 15, 16, 255, below(256));
+    d.cylinders = chance(3) ? 0 : ONE_OF(1, 2, 615, 4096, 4096, 4097, 0xffff, below(0x10000));
+    d.spares = chance(50) ? 0 : ONE_OF(1, 2, 0x80, 255, below(256));
+    uint32_t all = d.sectors * d.heads, left = all - d.spares;
+    d.per_cylinder = ONE_OF(left, left, all - 1, all, all + 1, all + below(300), 0, 0xffff, below(0x10000)) & 0xffff;
+    d.address = some_address(&d);
+    return d;
+}
+
+static void load_drive(struct drive d)
+{
+    point(AM33C93A_CDB_1);
+    write_next(d.sectors, 1);
+    write_next(d.heads, 1);
+    write_next(d.cylinders, 2);
+    write_next(d.address, 4);
+    write_next(below(256), 1); /* 0Bh is not looked at */
+    write_next(d.spares, 1);
+    write_next(d.per_cylinder, 2);
+}
+
+static void load_anything(void)
+{
+    point(AM33C93A_CDB_1);
+    for (int i = 0; i < 3; i++) write_next(any(), 4);
+}
+
+static void translate_what_stands(void)
+{
+    command(chance(20) ? AM33C93A_TRANSLATE_ADDRESS | AM33C93A_SINGLE_BYTE : AM33C93A_TRANSLATE_ADDRESS);
+    if (chance(90)) read_register(AM33C93A_SCSI_STATUS);
+    if (chance(20)) return;
+    read_register(AM33C93A_SECTOR_NUMBER);
+    for (int i = 0; i < 3; i++) push((struct call){.kind = REGISTER, .a = READ});
+}
+
+/* The results stand where parameters stood: a second command without a load takes them for parameters. Afterwards the registers
+ * mostly hold command bytes again. */
+static void translate(void)
+{
+    uint32_t r = below(100);
+    if (r < 80) load_drive(some_drive());
+    else if (r < 90) load_anything();
+    translate_what_stands();
+    if (chance(25)) translate_what_stands();
+    if (chance(80)) command_bytes();
+}
+
 /* What is likely next in each state. Each function puts at least one call into the queue. */
 
 static void interrupted(void)
@@ -400,7 +498,8 @@ static void disconnected(const struct plain *m)
     uint32_t r = below(100);
     bool er = m->stored[AM33C93A_SOURCE_ID] & 0x80;
     if (!er && r < 20) write_register(AM33C93A_SOURCE_ID, chance(70) ? 0x80 : 0x80 | below(128));
-    else if (r < 38) prepare();
+    else if (r < 36) prepare();
+    else if (r < 40) translate();
     else if (r < 70) command(ONE_OF(8, 8, 8, 8, 9, 9));
     else if (r < 84) command(ONE_OF(6, 7));
     else if (r < 90) reselect(m);
@@ -737,24 +836,35 @@ static void print_seen(void)
 
 static bool is_code(int c)
 {
-    static const uint8_t alone[] = {0x00, 0x11, 0x16, 0x20, 0x21, 0x22, 0x40, 0x41, 0x42, 0x43, 0x80, 0x85};
+    static const uint8_t alone[] = {0x00, 0x11, 0x15, 0x16, 0x20, 0x21, 0x22, 0x40, 0x41, 0x42, 0x43, 0x45, 0x80, 0x85};
     int base = c & 0xf8;
     return memchr(alone, c, sizeof alone) || base == 0x18 || base == 0x28 || base == 0x48 || base == 0x88;
 }
 
+static bool is_seen(int c)
+{
+    for (int k = 0; k < KINDS; k++)
+        if (codes[k][c] != 0) return true;
+    return false;
+}
+
+/* How many codes of the papers were not seen, and others were. */
+static unsigned amiss(void)
+{
+    unsigned n = 0;
+    for (int c = 0; c < 256; c++) n += is_code(c) != is_seen(c);
+    return n;
+}
+
 static void print_codes(void)
 {
-    unsigned seen = 0, missing = 0;
+    unsigned seen = 0;
     printf("codes not seen:");
     for (int c = 0; c < 256; c++) {
-        bool is_seen = false;
-        for (int k = 0; k < KINDS; k++) is_seen |= codes[k][c] != 0;
-        seen += is_seen;
-        if (is_code(c) == is_seen) continue;
-        printf(" %02Xh%s", c, is_seen ? " (seen, and no code of the paper)" : "");
-        missing++;
+        seen += is_seen(c);
+        if (is_code(c) != is_seen(c)) printf(" %02Xh%s", c, is_seen(c) ? " (seen, and no code of the papers)" : "");
     }
-    printf("%s; %u seen\n", missing ? "" : " none", seen);
+    printf("%s; %u seen\n", amiss() ? "" : " none", seen);
 }
 
 int main(int argc, char **argv)
@@ -770,9 +880,12 @@ int main(int argc, char **argv)
         made += played;
         if (d.what) return tell_difference(seed, made, played);
     }
-    if (argc > 3 && strcmp(argv[3], "-v") == 0) {
-        print_seen();
-        print_codes();
+    bool is_verbose = argc > 3 && strcmp(argv[3], "-v") == 0, is_too_little = made >= ENOUGH && amiss() != 0;
+    if (is_verbose) print_seen();
+    if (is_verbose || is_too_little) print_codes();
+    if (is_too_little) {
+        printf("differential: seed %llu, %lu calls, too little seen\n", (unsigned long long)seed, made);
+        return 1;
     }
     printf("differential: seed %llu, %lu calls, 0 differences\n", (unsigned long long)seed, made);
     return 0;

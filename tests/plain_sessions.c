@@ -1,8 +1,10 @@
-/* Sessions 1 to 9 of paper 01 and some longer ones, run against the plain model (bench/plain.c), or, compiled with -DLIBRARY,
- * against the library. Prints one line for each failed expectation and one at the end; exits with 1 on a failure.
+/* Sessions 1 to 9 of paper 01, some longer ones, and paper 02's Translate Address on a table of drives, run against the plain
+ * model (bench/plain.c), or, compiled with -DLIBRARY, against the library. Prints one line for each failed expectation and one at
+ * the end; exits with 1 on a failure.
  *
  *     gcc -O2 -std=c11 -Wall -Wextra -Werror -Iinclude -o plain_sessions tests/plain_sessions.c bench/plain.c
  *     gcc -O2 -std=c11 -Wall -Wextra -Werror -Iinclude -DLIBRARY -o sessions tests/plain_sessions.c libam33c93a.a */
+#include <stdbool.h>
 #include <stdint.h>
 #include <stdio.h>
 #include <string.h>
@@ -395,6 +397,136 @@ static void other_ends(void)
     IS(lines(), 0, 0x703);
 }
 
+/* Translate Address (paper 02, Req 01): registers 03, 04, 05/06, 0Ch, 0D/0Eh and 07 to 0Ah, the code, and with 15h the place. */
+static const struct drive {
+    uint32_t sectors, heads, cylinders, spares, per_cylinder, address, code, cylinder, head, sector;
+} drives[] = {
+    /* Without spares. 0D/0Eh are not looked at. */
+    {17, 4, 615, 0, 0xffff, 0, 0x15, 0, 0, 0},
+    {17, 4, 615, 0, 0xffff, 16, 0x15, 0, 0, 16},
+    {17, 4, 615, 0, 0, 17, 0x15, 0, 1, 0},
+    {17, 4, 615, 0, 0, 67, 0x15, 0, 3, 16},
+    {17, 4, 615, 0, 1, 68, 0x15, 1, 0, 0},
+    {17, 4, 615, 0, 66, 12345, 0x15, 181, 2, 3},
+    {17, 4, 615, 0, 0, 41819, 0x15, 614, 3, 16},
+    {17, 4, 615, 0, 0, 41820, 0x45, 0, 0, 0},
+    {17, 16, 4097, 0, 0, 1114383, 0x15, 4096, 15, 16},
+    {255, 255, 65535, 0, 0, 4261413374u, 0x15, 65534, 254, 254},
+    {255, 255, 65535, 0, 0, 4261413375u, 0x45, 0, 0, 0},
+    {255, 255, 65535, 0, 0, 4294967295u, 0x45, 0, 0, 0},
+    /* A cylinder is compared whole: 65536 is not 0. */
+    {1, 1, 65535, 0, 0, 65534, 0x15, 65534, 0, 0},
+    {1, 1, 65535, 0, 0, 65535, 0x45, 0, 0, 0},
+    {1, 1, 65535, 0, 0, 65536, 0x45, 0, 0, 0},
+    /* A total of 0 is none. */
+    {0, 4, 615, 0, 68, 0, 0x45, 0, 0, 0},
+    {17, 0, 615, 0, 68, 0, 0x45, 0, 0, 0},
+    {17, 4, 0, 0, 68, 0, 0x45, 0, 0, 0},
+    /* With 2 spares in each cylinder. */
+    {17, 4, 615, 2, 66, 65, 0x15, 0, 3, 14},
+    {17, 4, 615, 2, 66, 66, 0x15, 1, 0, 0},
+    {17, 4, 615, 2, 66, 40589, 0x15, 614, 3, 14},
+    {17, 4, 615, 2, 66, 40590, 0x45, 0, 0, 0},
+    /* 0D/0Eh are believed, also where they are sectors times heads, or more. */
+    {17, 4, 615, 2, 68, 67, 0x15, 0, 3, 16},
+    {17, 4, 615, 2, 70, 67, 0x15, 0, 3, 16},
+    {17, 4, 615, 2, 70, 68, 0x45, 0, 0, 0},
+    {17, 4, 615, 2, 70, 70, 0x15, 1, 0, 0},
+    /* A head is compared whole: 256 is not 0. */
+    {1, 15, 4096, 1, 65535, 14, 0x15, 0, 14, 0},
+    {1, 15, 4096, 1, 65535, 256, 0x45, 0, 0, 0},
+    /* Each divisor is asked, and a total of 0 is none. */
+    {17, 4, 615, 2, 0, 0, 0x45, 0, 0, 0},
+    {0, 4, 615, 2, 66, 0, 0x45, 0, 0, 0},
+    {17, 0, 615, 2, 66, 0, 0x45, 0, 0, 0},
+    {17, 4, 0, 2, 66, 0, 0x45, 0, 0, 0},
+    /* 4096 cylinders and 15 heads at most. */
+    {17, 15, 4096, 1, 254, 1040383, 0x15, 4095, 14, 15},
+    {17, 15, 4097, 1, 254, 0, 0x45, 0, 0, 0},
+    {17, 16, 4096, 1, 271, 0, 0x45, 0, 0, 0},
+};
+enum { DRIVES = sizeof drives / sizeof drives[0] };
+
+/* A number of so many bytes, the high one first, from this register on. */
+static void load_at(uint32_t address, uint32_t number, uint32_t bytes)
+{
+    for (uint32_t i = 0; i < bytes; i++) DONE(write_at(address + i, number >> 8 * (bytes - 1 - i) & 255));
+}
+
+static void holds_at(const char *what, int line, uint32_t address, uint32_t number, uint32_t bytes)
+{
+    for (uint32_t i = 0; i < bytes; i++)
+        expect(what, line, read_at(address + i), AM33C93A_DONE, number >> 8 * (bytes - 1 - i) & 255);
+}
+#define HOLDS(address, number, bytes) holds_at("register " #address, __LINE__, address, number, bytes)
+
+static void load_drive(const struct drive *d)
+{
+    fresh();
+    load_at(0x03, d->sectors, 1);
+    load_at(0x04, d->heads, 1);
+    load_at(0x05, d->cylinders, 2);
+    load_at(0x07, d->address, 4);
+    load_at(AM33C93A_SECTOR_NUMBER, 0xEE, 1);
+    load_at(AM33C93A_HEAD_NUMBER, d->spares, 1);
+    load_at(AM33C93A_CYLINDER_NUMBER, d->per_cylinder, 2);
+}
+
+/* The place stands at 0Bh to 0Eh, or what stood there before; the parameters stay. */
+static void translates(const struct drive *d, uint32_t written)
+{
+    char what[40];
+    bool found = d->code == 0x15;
+    snprintf(what, sizeof what, "drive %u of the table", (unsigned)(d - drives));
+    load_drive(d);
+    expect(what, __LINE__, command(written), AM33C93A_DONE, 0);
+    expect(what, __LINE__, auxiliary(), AM33C93A_DONE, AM33C93A_AUX_INT);
+    expect(what, __LINE__, read_at(AM33C93A_SCSI_STATUS), AM33C93A_DONE, d->code);
+    expect(what, __LINE__, auxiliary(), AM33C93A_DONE, 0);
+    expect(what, __LINE__, read_at(AM33C93A_COMMAND), AM33C93A_DONE, written);
+    holds_at(what, __LINE__, AM33C93A_SECTOR_NUMBER, found ? d->sector : 0xEE, 1);
+    holds_at(what, __LINE__, AM33C93A_HEAD_NUMBER, found ? d->head : d->spares, 1);
+    holds_at(what, __LINE__, AM33C93A_CYLINDER_NUMBER, found ? d->cylinder : d->per_cylinder, 2);
+    holds_at(what, __LINE__, 0x03, d->sectors << 24 | d->heads << 16 | d->cylinders, 4);
+    holds_at(what, __LINE__, 0x07, d->address, 4);
+}
+
+/* Where the command is taken, and a second one without a load: the head is taken for spares, the cylinder for 0D/0Eh. */
+static void translates_when_disconnected(void)
+{
+    static const struct drive d = {.sectors = 17, .heads = 4, .cylinders = 615, .address = 12345};
+    load_drive(&d);
+    DONE(command(AM33C93A_TRANSLATE_ADDRESS)); /* 12345 = 181 * 68 + 2 * 17 + 3 */
+    IS(command(AM33C93A_TRANSLATE_ADDRESS), 5, 0);
+    interrupted(__LINE__, 0x15, AM33C93A_AUX_LCI);
+    DONE(command(AM33C93A_TRANSLATE_ADDRESS)); /* 12345 = 68 * 181 + 2 * 17 + 3 */
+    CODE(0x15);
+    HOLDS(AM33C93A_SECTOR_NUMBER, 3, 1);
+    HOLDS(AM33C93A_HEAD_NUMBER, 2, 1);
+    HOLDS(AM33C93A_CYLINDER_NUMBER, 68, 2);
+    load_drive(&d);
+    DONE(command(AM33C93A_SELECT));
+    IS(command(AM33C93A_TRANSLATE_ADDRESS), 5, 0);
+    DONE(answer());
+    interrupted(__LINE__, 0x11, AM33C93A_AUX_LCI);
+    DONE(command(AM33C93A_TRANSLATE_ADDRESS));
+    CODE(0x40);
+    HOLDS(AM33C93A_SECTOR_NUMBER, 0xEE, 1);
+    DONE(command(AM33C93A_DISCONNECT));
+    DONE(command(AM33C93A_TRANSLATE_ADDRESS));
+    CODE(0x15);
+    HOLDS(AM33C93A_CYLINDER_NUMBER, 181, 2);
+}
+
+static void translates_addresses(void)
+{
+    for (int i = 0; i < DRIVES; i++) {
+        translates(&drives[i], AM33C93A_TRANSLATE_ADDRESS);
+        translates(&drives[i], AM33C93A_TRANSLATE_ADDRESS | AM33C93A_SINGLE_BYTE);
+    }
+    translates_when_disconnected();
+}
+
 int main(void)
 {
     session_1();
@@ -410,6 +542,7 @@ int main(void)
     reads_and_disconnects();
     parity_and_messages();
     other_ends();
+    translates_addresses();
     printf("%s sessions: %lu checks, %lu failed\n", WHO, checks, failures);
     return failures != 0;
 }

@@ -46,9 +46,26 @@ pub mod register {
     pub const COMMAND: u8 = 0x18;
     /// The FIFO's end for the host.
     pub const DATA: u8 = 0x19;
+
+    // The registers of Translate Address, where the command bytes stand otherwise; numbers of two and four bytes high byte first. 15h
+    // writes the place over 0Ch to 0Eh, so they are written anew before the next address.
+
+    /// On a track.
+    pub const TOTAL_SECTORS: u8 = 0x03;
+    pub const TOTAL_HEADS: u8 = 0x04;
+    /// Two bytes.
+    pub const TOTAL_CYLINDERS: u8 = 0x05;
+    /// Four bytes.
+    pub const LOGICAL_ADDRESS: u8 = 0x07;
+    /// Of the place, from 0.
+    pub const SECTOR_NUMBER: u8 = 0x0b;
+    /// Of the place; before: 0 if no sectors are spares.
+    pub const HEAD_NUMBER: u8 = 0x0c;
+    /// Two bytes, of the place; before, with spares: the sectors on a cylinder beside them.
+    pub const CYLINDER_NUMBER: u8 = 0x0d;
 }
 
-/// Commands; bit 7 asks Transfer Info for a single byte.
+/// Commands; bit 7 asks Transfer Info for a single byte, and is nothing to the others.
 pub mod command {
     /// Always taken.
     pub const RESET: u8 = 0x00;
@@ -70,6 +87,8 @@ pub mod command {
     pub const SELECT_TRANSFER: u8 = 0x09;
     /// Sets IDI only.
     pub const SET_IDI: u8 = 0x0f;
+    /// While Disconnected; 15h or 45h at once.
+    pub const TRANSLATE_ADDRESS: u8 = 0x18;
     /// Bytes of the reported phase.
     pub const TRANSFER_INFO: u8 = 0x20;
     /// With TRANSFER_INFO: one byte.
@@ -82,6 +101,8 @@ pub mod code {
     pub const RESET: u8 = 0x00;
     /// The Target answered a Select.
     pub const SELECTED: u8 = 0x11;
+    /// The place of the address stands at 0Bh to 0Eh.
+    pub const TRANSLATED: u8 = 0x15;
     /// A Select-And-Transfer came to its end.
     pub const COMPLETE: u8 = 0x16;
     /// Transfer Info is over, and this phase is asked for next.
@@ -102,6 +123,8 @@ pub mod code {
     pub const TIMEOUT: u8 = 0x42;
     /// Bad parity, with HSP; ACK is held.
     pub const PARITY: u8 = 0x43;
+    /// The address has no place on the disk; no register is written.
+    pub const OFF_DISK: u8 = 0x45;
     /// This phase came unexpected.
     pub const UNEXPECTED_PHASE: u8 = 0x48;
     /// A Target reselected us.

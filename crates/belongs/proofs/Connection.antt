@@ -17,6 +17,7 @@ use Rattle.chip.specs.Fifo.{waits}
 use Rattle.chip.specs.State.{fresh}
 use Rattle.chip.specs.Interrupts.{interrupted, inEnding, busy, isIncoming, raise, unlessInterrupt, outgoingDropped, bytesUnread}
 use Rattle.chip.specs.SelectAndTransfer as X
+use Rattle.chip.proofs.Translate.{by-translation}
 use Rattle.chip.specs.Commands.{isValid, isRefusedBusy, entryOf, table, reset, aborted, disconnected, selecting, selectAndTransferBegun, transferInfoBegun, carriedOut, accepted, commanded}
 use Rattle.chip.specs.Connections.{isConnected, isDisconnected, isSelecting}
 use Rattle.chip.specs.Registers as R
@@ -115,7 +116,7 @@ module _ (s : State) (i : interrupted s ≡ false) where
 
     carried-goes : (single : Bool) → isRefusedBusy (codeOf b) s ≡ false → isValid (codeOf b) s ≡ true
         → Leads (carriedOut (codeOf b) single (accepted b s))
-    unfolding carriedOut accepted disconnected selecting transferInfoBegun loadedForTransferInfo isSelectCode either
+    unfolding carriedOut accepted disconnected selecting transferInfoBegun loadedForTransferInfo raise outgoingDropped isSelectCode either
     carried-goes single r v =
         by-case Leads _ (λ e. aborted-goes e v)
         (λ n1. by-pick Leads _ (inl refl)
@@ -124,7 +125,7 @@ module _ (s : State) (i : interrupted s ≡ false) where
         (λ n4. by-case Leads _ (λ e. inr (selects-goes r (rw e) v (only-apart (rw e) v)))
         (λ n6. by-case Leads _ (λ e. inr (selects-goes r (rw (n6, e)) v (only-apart (rw (n6, e)) v)))
         (λ n7. by-case Leads _ (λ e. transferring-goes _ (rw e) r v)
-        (λ n8. by-case Leads _ (λ e. transferring-goes _ (rw (n8, e)) r v) (λ n9. by-pick Leads _ (inl refl) (inl refl)))))))))
+        (λ n8. by-case Leads _ (λ e. transferring-goes _ (rw (n8, e)) r v) (λ n9. by-pick Leads _ (inl refl) (by-pick Leads _ (by-translation Leads _ λ k l h. inl refl) (inl refl))))))))))
 
     commanded-goes : Replies (commanded b s)
     unfolding commanded reset accepted isReset

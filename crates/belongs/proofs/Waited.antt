@@ -17,6 +17,7 @@ use Rattle.chip.specs.Lines.{codeOf}
 use Rattle.chip.specs.State.{fresh}
 use Rattle.chip.specs.Interrupts.{busy, unlessInterrupt, raise, outgoingDropped}
 use Rattle.chip.specs.Activity.{goesOn}
+use Rattle.chip.proofs.Translate.{by-translation}
 use Rattle.chip.specs.Commands.{aborted, disconnected, selecting, selectAndTransferBegun, transferInfoBegun, accepted, carriedOut, commanded, reset}
 use Rattle.chip.specs.Connections.{isConnected, isSelecting}
 use Rattle.chip.specs.Count.{loadedForTransferInfo}
@@ -232,7 +233,8 @@ module _ (s : State) (x : s .wire .connection ≡ Disconnected) where
       (by-pick Zero _ (λ e. gone e refl)
       (by-pick Zero _ (λ e. refl)
       (by-pick Zero _ (λ e. refl)
-      (by-pick Zero _ (transferring-zero _ b) (by-pick Zero _ (transferring-zero _ b) (by-pick Zero _ not-so not-so))))))))
+      (by-pick Zero _ (transferring-zero _ b)
+      (by-pick Zero _ (transferring-zero _ b) (by-pick Zero _ not-so (by-pick Zero _ (by-translation Zero _ λ k l h. not-so) not-so)))))))))
 
   commanded-zero : (b : ℕ) → Zero (commanded b s .state)
   unfolding commanded accepted reset

@@ -7,6 +7,7 @@ use Rattle.chip.specs.Count as Count
 use Rattle.chip.specs.Interrupts as Interrupts
 use Rattle.chip.specs.TransferInfo as TransferInfo
 use Rattle.chip.specs.SelectAndTransfer as SelectAndTransfer
+use Rattle.chip.specs.Translate as Translate
 use Rattle.chip.specs.Commands as Commands
 use Rattle.chip.specs.Registers as Registers
 use Rattle.chip.specs.Events as Events
@@ -33,7 +34,10 @@ unfolding Choice.pick Choice.both Choice.either Phases.phaseOf Lines.isOn Lines.
     SelectAndTransfer.requestAt SelectAndTransfer.stage SelectAndTransfer.selectAndTransferRequest SelectAndTransfer.freeToWait
     SelectAndTransfer.freeAfterDisconnect SelectAndTransfer.selectAndTransferFree SelectAndTransfer.fromDisconnected
     SelectAndTransfer.hasSize SelectAndTransfer.isEarly SelectAndTransfer.isMiddle SelectAndTransfer.isAtEnd
-    SelectAndTransfer.isResumable SelectAndTransfer.ackAfterResume SelectAndTransfer.resumed Commands.table
+    SelectAndTransfer.isResumable SelectAndTransfer.ackAfterResume SelectAndTransfer.resumed
+    Translate.joined Translate.hasSparesIn Translate.perCylinderIn Translate.addressOf Translate.cylinderOf Translate.headOf
+    Translate.sectorOf Translate.dividesByZero Translate.isBeyondHeads Translate.isBeyondCylinders Translate.hasTooManyCylinders
+    Translate.hasTooManyHeads Translate.exceeds Translate.placed Translate.translatedBy Translate.translated Commands.table
     Commands.entryOf Commands.isReady Commands.isValid Commands.resetCode Commands.reset Commands.aborted Commands.disconnected
     Commands.selecting Commands.selectAndTransferBegun Commands.transferInfoBegun Commands.carriedOut Commands.accepted
     Commands.isRefusedBusy Commands.commanded Registers.pointerRead Registers.pointerSet Registers.auxiliaryRead

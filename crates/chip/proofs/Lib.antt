@@ -3,6 +3,7 @@ pub mod FifoLaws
 pub mod Numbers
 pub mod Activities
 pub mod Table
+pub mod Translate
 pub mod Sizes
 pub mod Computing
 pub mod Sessions

@@ -39,7 +39,8 @@ isListed c =
     (either (eqb c 0x02)
     (either (eqb c 0x03)
     (either (eqb c 0x04)
-    (either (eqb c 0x06) (either (eqb c 0x07) (either (eqb c 0x08) (either (eqb c 0x09) (eqb c 0x0F)))))))))
+    (either (eqb c 0x06)
+    (either (eqb c 0x07) (either (eqb c 0x08) (either (eqb c 0x09) (either (eqb c 0x0F) (eqb c 0x18))))))))))
 
 -- valid nowhere, or when connected
 abbrev isNarrow : Place → Bool
@@ -66,6 +67,7 @@ narrow WhenConnectedOrWaiting c e h = absurd (false≢true e)
 narrow WhenConnectedOrDisconnected c e h = absurd (false≢true e)
 
 pub unlisted : (k : ℕ) → eqb k 0x00 ≡ false → eqb k 0x01 ≡ false → eqb k 0x02 ≡ false → eqb k 0x03 ≡ false → eqb k 0x04 ≡ false
-    → eqb k 0x06 ≡ false → eqb k 0x07 ≡ false → eqb k 0x08 ≡ false → eqb k 0x09 ≡ false → eqb k 0x0F ≡ false → isListed k ≡ false
+    → eqb k 0x06 ≡ false → eqb k 0x07 ≡ false → eqb k 0x08 ≡ false → eqb k 0x09 ≡ false → eqb k 0x0F ≡ false → eqb k 0x18 ≡ false
+    → isListed k ≡ false
 unfolding isListed either
-unlisted k n0 n1 n2 n3 n4 n6 n7 n8 n9 n15 = rw (n0, n1, n2, n3, n4, n6, n7, n8, n9, n15)
+unlisted k n0 n1 n2 n3 n4 n6 n7 n8 n9 n15 n24 = rw (n0, n1, n2, n3, n4, n6, n7, n8, n9, n15, n24)

@@ -32,6 +32,7 @@ use Rattle.chip.specs.Lines.{isSingle, codeOf, ownIdentity, withIdi}
 use Rattle.chip.specs.Phases.{phaseNumber, comesIn}
 use Rattle.chip.specs.Count.{loadedForTransferInfo}
 use Rattle.chip.specs.Interrupts.{interrupted, busy, interrupt, raise, endingWith}
+use Rattle.chip.specs.Translate.{translated}
 use Rattle.chip.specs.SelectAndTransfer.{fromDisconnected, hasSize, isResumable, resumed}
 
 abbrev levelOne : Place → Entry
@@ -72,7 +73,7 @@ table =
     ∷ leftOut  -- 15h Send Data
     ∷ leftOut  -- 16h Send Message In
     ∷ leftOut  -- 17h Send Unspecified Info In
-    ∷ leftOut  -- 18h Translate Address
+    ∷ levelTwo WhenDisconnected  -- 18h Translate Address (02)
     ∷ leftOut  -- 19h
     ∷ leftOut  -- 1Ah
     ∷ leftOut  -- 1Bh
@@ -179,7 +180,8 @@ carriedOut n single s =
     (pick (eqb n 0x07) (selecting SelectWithoutAtn s)
     (pick (eqb n 0x08) (selectAndTransferBegun SelectAndTransferWithAtn s)
     (pick (eqb n 0x09) (selectAndTransferBegun SelectAndTransferWithoutAtn s)
-    (pick (eqb n 0x0F) (setControl (withIdi (s .registers .setup .control)) s) (transferInfoBegun single s)))))))))
+    (pick (eqb n 0x0F) (setControl (withIdi (s .registers .setup .control)) s)
+    (pick (eqb n 0x18) (translated s) (transferInfoBegun single s))))))))))
 
 -- "A command not ignored clears LCI and PE", and 18h reads it back, all 8 bits
 unfoldable pub accepted : ℕ → State → State

@@ -10,6 +10,7 @@ pub mod Count
 pub mod Interrupts
 pub mod TransferInfo
 pub mod SelectAndTransfer
+pub mod Translate
 pub mod Commands
 pub mod Registers
 pub mod Events
@@ -19,3 +20,4 @@ pub mod Image
 pub mod Ok
 pub mod Entries
 pub mod Sessions
+pub mod Translations

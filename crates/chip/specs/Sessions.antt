@@ -26,10 +26,10 @@ playedEach [] = []
 playedEach (x ∷ l) = played x fresh ∷ playedEach l
 
 -- a register or the command register written, a register read: the pointer is set first
-abbrev writes : ℕ → ℕ → List Line
+abbrev pub writes : ℕ → ℕ → List Line
 writes a b = (pointer 1 a ⇒ Done 0) ∷ (register 1 b ⇒ Done 0) ∷ []
 
-abbrev reads : ℕ → ℕ → List Line
+abbrev pub reads : ℕ → ℕ → List Line
 reads a b = (pointer 1 a ⇒ Done 0) ∷ (register 0 0 ⇒ Done b) ∷ []
 
 -- the Data register, with the pointer at 19h

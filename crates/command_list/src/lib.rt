@@ -131,7 +131,7 @@ const TABLE: [Entry; 34] = [
     // 18h Translate Address
     Entry {
         level: Level::Two,
-        place: Place::Nowhere,
+        place: Place::WhenDisconnected,
     },
     // 19h
     Entry {

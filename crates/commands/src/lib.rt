@@ -39,6 +39,9 @@ fn carried_out(n: u8, single: bool, s: State) -> State
     if n == 0x0f {
         return set::control(s, lines::with_idi(s.registers.setup.control));
     }
+    if n == 0x18 {
+        return translate::translated(s);
+    }
     act::transfer_info_begun(single, s)
 }
 

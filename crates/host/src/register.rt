@@ -1,9 +1,7 @@
 // Registers 00 to 16h, read and stored at their addresses.
 ghost use mathlib.Core.Path.{_≡_};
 ghost use Rattle.chip.specs.Registers.{highWritten, lowWritten, middleWritten, registerAt, stored, storedIn};
-ghost use Rattle.chip.specs.State.{withCdb};
 ghost use Prim.Native.Nat.{_*_, _%_, _+_, _/_};
-use chip::Descriptor;
 use chip::Registers;
 use chip::State;
 use state::set;
@@ -68,25 +66,6 @@ fn low_written(b: u8, n: u32) -> u32
     n / 256 * 256 + (b as u32)
 }
 
-fn with_cdb(x: [u8; 12], r: Registers) -> Registers
-    ensures { λ t. ⌜ t ≡ withCdb x r ⌝ }
-{
-    let setup = r.setup;
-    let d = r.descriptor;
-    let descriptor = Descriptor {
-        cdb: x,
-        lun: d.lun,
-        phase: d.phase,
-    };
-    Registers {
-        setup,
-        descriptor,
-        count: r.count,
-        destination: r.destination,
-        source: r.source,
-    }
-}
-
 // The registers with the one at a written.
 fn stored_in(a: u8, b: u8, r: Registers) -> Registers
     ensures { λ x. ⌜ x ≡ storedIn a b r ⌝ }
@@ -109,7 +88,7 @@ fn stored_in(a: u8, b: u8, r: Registers) -> Registers
         let mut cdb = descriptor.cdb;
         let at = (a - 3) as usize;
         cdb[at] = b;
-        return with_cdb(cdb, r);
+        return set::with_cdb(cdb, r);
     }
     if a == 0x0f {
         t.descriptor.lun = b;

@@ -36,6 +36,8 @@ use Rattle.chip.specs.Interrupts.{isOutgoing}
 use Rattle.reached.specs.Sound.{Placed, unasked, told, apart, joined, unfixed, none, Shape, idle, selects, waits, selectsAndTransfers, transfersInfo, ending, readOut, SelectsAndTransfers, with-atn, without-atn, select-and-transfer, transfer-info, Selects, six, seven}
 use Rattle.chip.specs.Fifo.{Whole}
 use Rattle.chip.proofs.FifoLaws.{keeps-bytes}
+use Rattle.chip.specs.Translate.{translated}
+use Rattle.chip.proofs.Translate.{by-translation}
 use Rattle.chip.proofs.Table.{isLikeInfo, as-info, narrow, unlisted}
 use Rattle.reached.proofs.Shapes.{Numbered, Good, so, Fine, being, clash, empty-way, raised, ended, selects-and-transfers-run, moves-run, selects-run, transfers-selects}
 
@@ -117,6 +119,14 @@ module _ (s : State) (n : Numbered s) where
       })
       (keeps-bytes .begins-whole) (transfersInfo (empty-way (wayOf w) refl) refl)
 
+  translate : {x : Activity} {c : Connection} {d : Direction} {q : Fifo} {atn ack : Bool} (w : Noted)
+      → Whole q → Rest x c d q atn ack → Good (translated (being x c d q atn ack w s))
+  translate w u (rest o h l) =
+      by-translation Good _ λ k r long.
+      raised k _
+      (record { cdb-long = long ∙ n .cdb-long; count-below = n .count-below; identity-below = n .identity-below })
+      u l (none h)
+
 -- ---- the tests before a command
 
 placed : (k j : ℕ) (a : Connection) → eqb k j ≡ true → isPlace (entryOf k .place) a ≡ true → isPlace (entryOf j .place) a ≡ true
@@ -165,9 +175,10 @@ module _ (s : State) (n : Numbered s) (k : ℕ) (single : Bool) where
       λ n7.
       by-case Good _ (λ e. begin s n SelectAndTransferWithAtn with-atn w u (resting g i (calm (levelled k 0x08 e refl)))) λ n8.
       by-case Good _ (λ e. begin s n SelectAndTransferWithoutAtn without-atn w u (resting g i (calm (levelled k 0x09 e refl)))) λ n9.
-      by-case Good _ (λ e. so _ n u g)
-      λ n15.
-      let x : isLikeInfo (entryOf k) ≡ true = as-info k (unlisted k n0 n1 n2 n3 n4 n6 n7 n8 n9 n15) in
+      by-case Good _ (λ e. so _ n u g) λ n15.
+      by-case Good _ (λ e. translate s n w u (resting g i (calm (levelled k 0x18 e refl))))
+      λ n24.
+      let x : isLikeInfo (entryOf k) ≡ true = as-info k (unlisted k n0 n1 n2 n3 n4 n6 n7 n8 n9 n15 n24) in
       inform s n single w u (resting g i (calm (both-first _ _ x)))
       (narrow (entryOf k .place) a (both-second (isTwo (entryOf k .level)) _ x) l)
 

@@ -79,7 +79,8 @@ carried-out c single s h n0 =
     (by-pick (SameCount s) _ (stands refl refl)
     (by-case (SameCount s) _ (λ e. absurd (not-one c 0x08 refl h e)) λ n8.
     by-case (SameCount s) _ (λ e. absurd (not-one c 0x09 refl h e)) λ n9.
-    or-else _ (stands refl refl) λ n15. absurd (none-of c h n0 n1 n2 n3 n4 n15)))
+    or-else _ (stands refl refl) λ n15.
+    by-case (SameCount s) _ (λ e. absurd (not-one c 0x18 refl h e)) λ n24. absurd (none-of c h n0 n1 n2 n3 n4 n15)))
 
 pub record Goes (s : State) (q : Reply) : Type 0 where
   pub so : runningNumber (q .state .activity) ≡ runningNumber (s .activity) → SameCount s (q .state)

@@ -1,4 +1,4 @@
-// A line's call, made on the image by the entries that the C emulator uses. Host and disk have the words of paper 01:
+// A line's call, made on the image by the entries that the C emulator uses. Host and disk have the words of the papers:
 //
 //     pointer A          sets the pointer            Time N             N units pass
 //     pointer?           reads it                    Answer             the Target answers our selection
@@ -9,6 +9,9 @@
 //     code               reads 17h
 //     count N, count?    writes, reads 12h to 14h
 //     out N B, in N      a block of N bytes, written rising from B, or read
+//     translate S H C at A B [spares K P]   loads a disk and an address, 03 to 0Eh, and writes 18h to 18h: S sectors, H heads, C cylinders,
+//                        the address by its high and low half; K spares, and P sectors on a cylinder beside them
+//     cylinder?          reads 0D/0Eh
 ghost use Prim.Native.Nat.{_≤_, _<_};
 use crate::tables;
 use crate::words;
@@ -24,7 +27,7 @@ use controller::am33c93a_reselection;
 use controller::am33c93a_time;
 
 // The first word of a line; the host's calls first. `verb` below is a row of this table.
-pub(crate) const VERBS: [u8; 114] = *b"pointer
+pub(crate) const VERBS: [u8; 134] = *b"pointer
 pointer?
 auxiliary
 read
@@ -35,6 +38,8 @@ count
 count?
 out
 in
+translate
+cylinder?
 Time
 Answer
 Reselection
@@ -45,14 +50,14 @@ lines
 
 pub(crate) const CODE: u32 = 6;
 
-pub(crate) const REQUEST: u32 = 14;
+pub(crate) const REQUEST: u32 = 16;
 
-const FIRST_OF_THE_BUS: u32 = 11;
+const FIRST_OF_THE_BUS: u32 = 13;
 
-const NO_VERB: u32 = 17;
+const NO_VERB: u32 = 19;
 
 pub(crate) fn verb_of(line: &[u8]) -> u32
-    ensures { λ r. ⌜ r ≤ 17 ⌝ }
+    ensures { λ r. ⌜ r ≤ 19 ⌝ }
 {
     tables::row_of_word(&VERBS, NO_VERB, line, 0)
 }
@@ -110,6 +115,47 @@ fn count_read(image: &mut [u8]) -> u32 {
     let middle = read_at(0x13, image) / 256 % 256;
     let low = read_at(0x14, image);
     low % 256 + low / 256 % 256 * 256 + middle * 65536 + high * 16777216
+}
+
+// A number of two bytes, at the register where the pointer stands and the next.
+fn two_written(n: u32, image: &mut [u8]) -> u32 {
+    am33c93a_register(image, 1, n / 256 % 256);
+    am33c93a_register(image, 1, n % 256)
+}
+
+// 03 to 06.
+fn disk_written(line: &[u8], image: &mut [u8]) -> u32 {
+    am33c93a_pointer(image, 1, 0x03);
+    am33c93a_register(image, 1, words::operand(line, 1));
+    am33c93a_register(image, 1, words::operand(line, 2));
+    two_written(words::operand(line, 3), image)
+}
+
+// 07 to 0Ah.
+fn address_written(line: &[u8], image: &mut [u8]) -> u32 {
+    two_written(words::operand(line, 5), image);
+    two_written(words::operand(line, 6), image)
+}
+
+// 0Bh, which is not looked at, and 0Ch to 0Eh.
+fn spares_written(line: &[u8], image: &mut [u8]) -> u32 {
+    am33c93a_register(image, 1, 0);
+    am33c93a_register(image, 1, words::operand(line, 8));
+    two_written(words::operand(line, 9), image)
+}
+
+fn translated(line: &[u8], image: &mut [u8]) -> u32 {
+    disk_written(line, image);
+    address_written(line, image);
+    spares_written(line, image);
+    written(0x18, 0x18, 1, image)
+}
+
+// The answer of the second of two reads, with the whole number as its value.
+fn cylinder_read(image: &mut [u8]) -> u32 {
+    let high = read_at(0x0d, image) / 256 % 256;
+    let low = read_at(0x0e, image);
+    low % 256 + low / 256 % 256 * 256 + high * 65536
 }
 
 fn within(n: u32, most: usize) -> usize
@@ -170,12 +216,14 @@ pub(crate) fn made(verb: u32, line: &[u8], image: &mut [u8], data: &mut [u8]) ->
         8 => count_read(image),
         9 => block_out(a, b, image),
         10 => block_in(a, image, data),
-        11 => am33c93a_time(image, a),
-        12 => am33c93a_answer(image),
-        13 => am33c93a_reselection(image, a),
-        14 => requested(line, 0, image),
-        15 => am33c93a_free(image),
-        16 => am33c93a_lines(image),
+        11 => translated(line, image),
+        12 => cylinder_read(image),
+        13 => am33c93a_time(image, a),
+        14 => am33c93a_answer(image),
+        15 => am33c93a_reselection(image, a),
+        16 => requested(line, 0, image),
+        17 => am33c93a_free(image),
+        18 => am33c93a_lines(image),
         _ => 3,
     }
 }

@@ -1,8 +1,8 @@
 // The script line by line. A line is one of
 //
 //     session N TITLE          a fresh controller
-//     # TEXT                   what the next lines show, mostly a sentence of the paper
-//     CALL = ANSWER VALUE      one call (calls.rt), and what the paper says that it answers; without '=', Done with 0
+//     # TEXT                   what the next lines show, mostly a sentence of a paper
+//     CALL = ANSWER VALUE      one call (calls.rt), and what the papers say that it answers; without '=', Done with 0
 //     Request P B xN = ..      N Requests; byte and value rise by one from each to the next
 // Words that a call does not look at, as the name of a register, are for the reader.
 //
@@ -78,11 +78,11 @@ fn say_bytes(data: &[u8], n: u32) {
 }
 
 // How the value of Done is written, by the verb: a byte, a number, a code, auxiliary status, the bytes of a block, lines, or not.
-const FORMS: [u8; 18] = *b"-bab--c-nni---b-l-";
+const FORMS: [u8; 20] = *b"-bab--c-nni-n---b-l-";
 
 // before is what auxiliary status showed before the call.
 fn say_value(verb: u32, value: u32, before: u32, data: &[u8]) {
-    let form = FORMS[(verb % 18) as usize];
+    let form = FORMS[(verb % 20) as usize];
     if form != b'-' {
         say(b" ");
     }
@@ -285,7 +285,9 @@ fn finish(first: &[u8], tally: Tally) {
     io::print_decimal(1, tally.calls);
     say(b" lines, ");
     io::print_decimal(1, tally.wrong);
-    say(b" answered otherwise than paper 01 says; ");
+    say(b" answered otherwise than the papers say; ");
     names::say_decimal(read);
-    say(b" of 44 status codes read\n");
+    say(b" of ");
+    names::say_decimal(tables::CODE_ROWS);
+    say(b" status codes read\n");
 }

@@ -58,9 +58,10 @@ selecting
 waiting for reselection
 ";
 
-// Every status code that the first version can raise: the table `Because` of the room unread, which is proved to have them all.
-pub(crate) const CODES: [u8; 1273] = *b"00h  Reset is done
+// Every status code that can be raised: the table `Because` of the room unread, which is proved to have them all.
+pub(crate) const CODES: [u8; 1348] = *b"00h  Reset is done
 11h  selected
+15h  the place of the address is found
 16h  Select-And-Transfer is complete
 18h  Transfer Info is over, next is Data Out
 19h  Transfer Info is over, next is Data In
@@ -85,6 +86,7 @@ pub(crate) const CODES: [u8; 1273] = *b"00h  Reset is done
 41h  the Target left in the middle
 42h  selection timed out
 43h  bad parity, ACK held
+45h  the address is not on the disk
 48h  unexpected Data Out
 49h  unexpected Data In
 4Ah  unexpected Command
@@ -105,7 +107,7 @@ pub(crate) const CODES: [u8; 1273] = *b"00h  Reset is done
 8Fh  asked for Message In
 ";
 
-pub(crate) const CODE_ROWS: u32 = 44;
+pub(crate) const CODE_ROWS: u32 = 46;
 
 // Row k of a table, counted from 0; an empty one at the table's end where there are fewer.
 pub(crate) fn row(table: &[u8], k: u32) -> Part

@@ -1,9 +1,10 @@
 // A state with one field changed: set::phase(s, x) is the definition setPhase x s.
 ghost use mathlib.Core.Path.{_≡_};
-ghost use Rattle.chip.specs.State.{setRegisters, setControl, setLun, setPhase, setCount, setSource, setPointer, setCode, setCommand, setLci, setPe, setActivity, setDirection, setSingle, setConnection, setAtn, setAck, setSeen, setReported, setLast, setElapsed, setFifo};
+ghost use Rattle.chip.specs.State.{withCdb, setRegisters, setCdb, setControl, setLun, setPhase, setCount, setSource, setPointer, setCode, setCommand, setLci, setPe, setActivity, setDirection, setSingle, setConnection, setAtn, setAck, setSeen, setReported, setLast, setElapsed, setFifo};
 use crate::get;
 use chip::Activity;
 use chip::Connection;
+use chip::Descriptor;
 use chip::Direction;
 use chip::Fifo;
 use chip::Noted;
@@ -19,6 +20,33 @@ pub fn registers(s: State, x: Registers) -> State
     let mut t = s;
     t.registers = x;
     t
+}
+
+// Registers 03 to 0Eh.
+pub fn with_cdb(x: [u8; 12], r: Registers) -> Registers
+    ensures { λ t. ⌜ t ≡ withCdb x r ⌝ }
+{
+    let setup = r.setup;
+    let d = r.descriptor;
+    let descriptor = Descriptor {
+        cdb: x,
+        lun: d.lun,
+        phase: d.phase,
+    };
+    Registers {
+        setup,
+        descriptor,
+        count: r.count,
+        destination: r.destination,
+        source: r.source,
+    }
+}
+
+pub fn cdb(s: State, x: [u8; 12]) -> State
+    ensures { λ r. ⌜ r ≡ setCdb x s ⌝ }
+{
+    let part = s.registers;
+    registers(s, with_cdb(x, part))
 }
 
 pub fn control(s: State, x: u8) -> State

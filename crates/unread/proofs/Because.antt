@@ -55,11 +55,13 @@ because-row (B.brings h u) = brings-row h .raised-now u
 because-row (B.reads h) = reads-row h .raised-now refl
 because-row (B.resets {c} {s} e) = record { code = reset-told c s e .0; int = reset-told c s e .1 }
 because-row (B.answers {s} on x t) = W.answers-row s on x t
+because-row (B.locates {c} {s} h e) = W.locates-row c s (h .quiet) (h .idle) (h .apart) (h .command) e
 because-row (B.resumes {c} {s} k e w q r x p) = W.resumes-row c s q r x p k e w .raised-now refl
 because-row (B.takes-last {n} {b} {m} {s} l d) = A.last-row n b m s l .raised-now d
 because-row (B.aborts {c} {s} e on x) = W.aborts-row c s (going-quiet s on) on e x
 because-row (B.refuses {c} {s} k e n q r v) = W.refuses-row c s q r k e n v
 because-row (B.times-out {n} {s} g on x t l) = W.times-out-row n s g on x t l
+because-row (B.misses {c} {s} h e) = W.misses-row c s (h .quiet) (h .idle) (h .apart) (h .command) e
 because-row (B.reselects {lines} {s} g q f x w) = W.reselects-row lines s g q f x w
 because-row (B.frees {s} q x r) = A.idle-free-row s q x r
 because-row (B.asks {n} {b} {m} {p} {s} o r f) = A.asks-row n b m s o r f
@@ -95,11 +97,13 @@ because-found (B.brings h u) = quiet (brings-quiet h)
 because-found (B.reads h) = reading-out h
 because-found (B.resets e) = resetting e
 because-found (B.answers {s} on x t) = quiet (going-quiet s on)
+because-found (B.locates h e) = quiet (h .quiet)
 because-found (B.resumes k e w q r x p) = quiet q
 because-found (B.takes-last l d) = quiet (l .offered .quiet)
 because-found (B.aborts {s = s} e on x) = quiet (going-quiet s on)
 because-found (B.refuses k e n q r v) = quiet q
 because-found (B.times-out {s = s} g on x t l) = quiet (going-quiet s on)
+because-found (B.misses h e) = quiet (h .quiet)
 because-found (B.reselects g q f x w) = quiet q
 because-found (B.frees q x r) = quiet q
 because-found (B.asks o r f) = quiet (o .quiet)

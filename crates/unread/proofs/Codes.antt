@@ -30,7 +30,7 @@ use Rattle.chip.specs.declared.Connection.{Connection}
 use Rattle.chip.specs.declared.Connection.the-variants.{Disconnected, Selecting, Waiting, Connected}
 use Rattle.unread.specs.Status.{Ending, pending, isCommand, isReset, isSelection, isAnswer}
 use Rattle.unread.specs.Because as B
-use Rattle.unread.specs.Because.{Brings, Begins, ReadsOut, Because, isIdle}
+use Rattle.unread.specs.Because.{Brings, Begins, ReadsOut, Because, Translates, isIdle}
 use Rattle.unread.specs.Codes as C
 use Rattle.unread.specs.Codes.{Raises, Since, Selects, EndingsBegun, Unanswered, SelectionsBegun, CodesOnlyBy}
 use Rattle.unread.proofs.Choosing.{clash}
@@ -121,7 +121,7 @@ selections-begun = record { begun = λ l e. by-calls Selected (λ e. clash (ap i
 -- which call and state a code speaks for, apart from the read that ends a read-out
 
 data Reason : Type 0 where
-  resetting answering completing aborting refusing leaving timing reselecting : Reason
+  resetting answering translating completing aborting refusing leaving timing reselecting : Reason
   asking : Phase → Reason
   other : Reason
 
@@ -133,16 +133,18 @@ reasonOf : ℕ → Reason
 reasonOf k =
     pick (isResetCode k) resetting
     (pick (eqb k 0x11) answering
+    (pick (either (eqb k 0x15) (eqb k 0x45)) translating
     (pick (eqb k 0x16) completing
     (pick (eqb k 0x22) aborting
     (pick (eqb k 0x40) refusing
     (pick (either (eqb k 0x41) (eqb k 0x85)) leaving
     (pick (eqb k 0x42) timing
-    (pick (eqb k 0x80) reselecting (pick (both (leb 0x88 k) (leb k 0x8F)) (asking (phaseOf (k - 0x88))) other))))))))
+    (pick (eqb k 0x80) reselecting (pick (both (leb 0x88 k) (leb k 0x8F)) (asking (phaseOf (k - 0x88))) other)))))))))
 
 Explains : Reason → Call → State → Type 0
 Explains resetting c s = isReset c s ≡ true
 Explains answering c s = (c ≡ answer) × (s .wire .connection ≡ Selecting)
+Explains translating c s = Translates c s
 Explains completing c s = bytesUnread (step c s .state) ≡ false
 Explains aborting c s = isCommand 0x01 c s ≡ true
 Explains refusing c s = (k : ℕ) × (isCommand k c s ≡ true)
@@ -207,11 +209,13 @@ explained (B.brings h u) = inr (brings-explained h u)
 explained (B.reads h) = inl h
 explained (B.resets {s = s} e) = inr (rw (reset-reason (resetCode s) (reset-code-is s)) e)
 explained (B.answers on x t) = inr (refl, x)
+explained (B.locates h e) = inr h
 explained (B.resumes {c} {s} k e w q r x p) = inr (W.resumes-row c s q r x p k e w .all-read refl)
 explained (B.takes-last l d) = inr tt
 explained (B.aborts e on x) = inr e
 explained (B.refuses k e n q r v) = inr (k, e)
 explained (B.times-out {n} g on x t l) = inr (n, refl, x)
+explained (B.misses h e) = inr h
 explained (B.reselects {lines} g q f x w) = inr (lines, refl)
 explained (B.frees q x r) = inr refl
 explained (B.asks {n} {b} {m} {p} o r f) = inr (rw (asked p) (n, b, m, refl, o .phase, o .connected, r))
@@ -221,6 +225,7 @@ explained (B.asks {n} {b} {m} {p} o r f) = inr (rw (asked p) (n, b, m, refl, o .
 EndsBy : Reason → Call → Type 0
 EndsBy resetting c = ⊥
 EndsBy answering c = ⊥
+EndsBy translating c = ⊥
 EndsBy completing c = Unit {0}
 EndsBy aborting c = ⊥
 EndsBy refusing c = ⊥
@@ -323,6 +328,8 @@ codes-only-by =
     record {
       by-reset = λ l c s h. reset-only l c (resetCode s) (reset-code-is s) h;
       by-answer = λ l c h. own l c h (λ d x. x);
+      by-translation = λ l c h. own l c h (λ d x. x);
+      by-failed-translation = λ l c h. own l c h (λ d x. x);
       all-read = λ l c h. ⊎-elim (λ r. reads-row r .all-read refl) (λ e. e) (why l c h);
       by-abort = λ l c h. own l c h (λ d x. x);
       by-command = λ l c h. own l c h (λ d x. x);

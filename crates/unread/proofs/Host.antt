@@ -25,6 +25,7 @@ use Rattle.chip.specs.Interrupts.{interrupted, inEnding, busy, endingWith, rais
 use Rattle.chip.specs.Activity.{isInterrupt, isEnding, isRunning, goesOn}
 use Rattle.chip.specs.Count.{loaded, loadedForTransferInfo, dbr}
 use Rattle.chip.specs.SelectAndTransfer.{resumed, fromDisconnected}
+use Rattle.chip.specs.Translate.{translatedBy, translated}
 use Rattle.chip.specs.Commands.{isValid, isReady, isPlace, isTwo, isRefusedBusy, leftOut, entryOf, table, reset, aborted, disconnected, selecting, selectAndTransferBegun, transferInfoBegun, carriedOut, accepted, commanded}
 use Rattle.chip.specs.Connections.{isConnected, isSelecting}
 use Rattle.chip.specs.Calls.{Call, register, block, isGood, isSet}
@@ -181,6 +182,20 @@ module _
     select-quiet : isSelectCode (codeOf b) ≡ true → isRefusedBusy (codeOf b) s ≡ false → Quiet s
     select-quiet w f = quiet-of s i (not-busy-ends s (select-idle (codeOf b) s w f))
 
+    -- a valid Translate Address that no running command refuses
+    translates : eqb (codeOf b) 0x18 ≡ true → isRefusedBusy (codeOf b) s ≡ false → isValid (codeOf b) s ≡ true
+        → B.Translates (register m b) s
+    unfolding isValid isRefusedBusy entryOf table either
+    translates e r v =
+        let k : codeOf b ≡ 0x18 = eqb-true _ _ e in
+        let idle : busy s ≡ false = not-first (busy s) true (rw k at r) refl in
+        record {
+          command = is-command 0x18 e;
+          quiet = quiet-of s i (not-busy-ends s idle);
+          idle = not-busy-runs s idle;
+          apart = is-disconnected _ (both-first _ _ (rw k at v));
+        }
+
     transferring-tells : (r : Command) → either (eqb (codeOf b) 0x08) (eqb (codeOf b) 0x09) ≡ true
         → isRefusedBusy (codeOf b) s ≡ false → isValid (codeOf b) s ≡ true → Told (selectAndTransferBegun r (accepted b s))
     unfolding selectAndTransferBegun resumed accepted selecting fromDisconnected loaded endingWith raise outgoingDropped bytesUnread both
@@ -196,6 +211,13 @@ module _
         (gone (connected-apart (s .wire .connection) x)))))
         (λ h. so (moves (connected-apart (s .wire .connection) x) (sym q))))
         (λ x. so (selects (is-selection v) q (select-apart (codeOf b) s v u x) (select-idle (codeOf b) s v f)))
+
+    translating-tells : eqb (codeOf b) 0x18 ≡ true → isRefusedBusy (codeOf b) s ≡ false → isValid (codeOf b) s ≡ true
+        → Told (translated (accepted b s))
+    unfolding translated translatedBy accepted raise outgoingDropped
+    translating-tells e r v =
+        let h : B.Translates (register m b) s = translates e r v in
+        by-case Told _ (λ x. so (raises i (B.misses h x) (there (λ q. h .idle)))) (λ x. so (raises i (B.locates h x) (there (λ q. h .idle))))
 
     carried-tells : (single : Bool) → eqb (codeOf b) 0x00 ≡ false → isRefusedBusy (codeOf b) s ≡ false → isValid (codeOf b) s ≡ true
         → Told (carriedOut (codeOf b) single (accepted b s))
@@ -213,8 +235,9 @@ module _
         (λ n7. by-case Told _ (λ e. transferring-tells _ (rw e) r v)
         (λ n8. by-case Told _ (λ e. transferring-tells _ (rw (n8, e)) r v)
         (λ n9. by-case Told _ (λ e. so (moves z refl))
-        (λ n15. let idle : busy s ≡ false = other-idle (codeOf b) s (unlisted (codeOf b) n0 n1 n2 n3 n4 n6 n7 n8 n9 n15) r in
-        so (moves z (sym (quiet-of s i (not-busy-ends s idle)))))))))))))
+        (λ n15. by-case Told _ (λ e. translating-tells e r v)
+        (λ n24. let idle : busy s ≡ false = other-idle (codeOf b) s (unlisted (codeOf b) n0 n1 n2 n3 n4 n6 n7 n8 n9 n15 n24) r in
+        so (moves z (sym (quiet-of s i (not-busy-ends s idle))))))))))))))
 
   is-reset : eqb (codeOf b) 0x00 ≡ true → isReset (register m b) s ≡ true
   unfolding isReset

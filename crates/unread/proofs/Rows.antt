@@ -1,6 +1,7 @@
 -- The other rows of the table: commands, Time, Answer, Reselection, and the reads that end a read-out.
---   aborts-connected-row aborts-row refuses-row resumes-row   commands
---   taken-command abort-taken kept-free                       .. what is taken, and that no idle controller refuses one as busy
+--   aborts-connected-row aborts-row refuses-row resumes-row locates-row misses-row   commands
+--   taken-reply taken-command abort-taken translate-taken     .. what is taken
+--   kept-free                                                 .. and that no idle controller refuses one as busy
 --   selecting-now times-out-row answers-row reselects-row     events
 --   byte-row slice-row                                        reads
 --   no-data no-block                                          reads where no byte waits
@@ -24,6 +25,7 @@ use Rattle.chip.specs.Count.{dbr, loaded}
 use Rattle.chip.specs.Interrupts.{busy, interrupt, endingWith, raise, outgoingDropped, withoutOutgoing, settled, settledBy, bytesUnread, isIncoming}
 use Rattle.chip.specs.Activity.{isRunning, goesOn, isSelectAndTransfer}
 use Rattle.chip.specs.SelectAndTransfer.{resumed, isResumable, isEarly, isMiddle, isAtEnd}
+use Rattle.chip.specs.Translate.{translatedBy, translated}
 use Rattle.chip.specs.Commands.{isReady, isValid, isRefusedBusy, entryOf, table, aborted, selectAndTransferBegun, carriedOut, accepted, commanded, abortPhase}
 use Rattle.chip.specs.Connections.{isConnected, isWaiting, isSelecting}
 use Rattle.chip.specs.Registers as R
@@ -33,13 +35,13 @@ use Rattle.chip.specs.declared.State.{State}
 use Rattle.chip.specs.declared.Fifo.{Fifo}
 use Rattle.chip.specs.declared.Reply.{Reply}
 use Rattle.chip.specs.declared.Command.{Command}
-use Rattle.chip.specs.declared.Connection.the-variants.{Selecting, Connected}
+use Rattle.chip.specs.declared.Connection.the-variants.{Disconnected, Selecting, Connected}
 use Rattle.chip.specs.declared.Direction.{Direction}
 use Rattle.chip.specs.declared.Direction.the-variants.{Unfixed, In, Out}
 use Rattle.chip.specs.declared.Activity.{Activity}
 use Rattle.chip.specs.declared.Activity.the-variants as A
 use Rattle.unread.specs.Status.{Ending, pendingIn, pending, isCommand, readsAt}
-use Rattle.unread.specs.Because.{Quiet, ReadsLast, byte, slice}
+use Rattle.unread.specs.Because.{Quiet, isOffDisk, ReadsLast, byte, slice}
 use Rattle.chip.proofs.Cases.{by-test, taken, passed-over}
 use Rattle.unread.proofs.Choosing.{clash, second-fails, one-of}
 use Rattle.unread.proofs.Telling.{summary}
@@ -69,11 +71,14 @@ stepped-ended c s a r e h =
 
 module _ (c : Call) (s : State) (q : Quiet s) where
   -- a command that is taken
+  taken-reply : (b : ℕ) → eqb (codeOf b) 0x00 ≡ false → isRefusedBusy (codeOf b) s ≡ false → isValid (codeOf b) s ≡ true
+      → commanded b s ≡ done 0 (carriedOut (codeOf b) (isSingle b) (accepted b s))
+  unfolding commanded
+  taken-reply b n r v = passed-over _ _ n ∙ passed-over _ _ (int-by s q) ∙ passed-over _ _ r ∙ taken _ _ v
+
   pub taken-command : (b : ℕ) → eqb (codeOf b) 0x00 ≡ false → isRefusedBusy (codeOf b) s ≡ false → isValid (codeOf b) s ≡ true
       → commanded b s .state ≡ carriedOut (codeOf b) (isSingle b) (accepted b s)
-  unfolding commanded
-  taken-command b n r v =
-      ap (λ (x : Reply). x .state) (passed-over _ _ n ∙ passed-over _ _ (int-by s q) ∙ passed-over _ _ r ∙ taken _ _ v)
+  taken-command b n r v = ap (λ (x : Reply). x .state) (taken-reply b n r v)
 
   module _ (on : goesOn (s .activity) ≡ true) where
     abort-valid : isValid 0x01 s ≡ true
@@ -124,6 +129,29 @@ module _ (c : Call) (s : State) (q : Quiet s) where
         let h : Issued k c s = issued k c s e in
         stepped-raised c s 0x18 _ (h .leaves)
         (rw (refused-command (h .byte) (rw (h .code, n)) (rw (h .code, v))) (record { code = refl; int = refl }))
+
+    module _ (x : s .wire .connection ≡ Disconnected) where
+      translate-valid : isValid 0x18 s ≡ true
+      unfolding isValid isReady entryOf table both either pick
+      translate-valid = rw x
+
+      pub translate-taken : (b : ℕ) → codeOf b ≡ 0x18 → commanded b s ≡ done 0 (translated (accepted b s))
+      unfolding carriedOut pick
+      translate-taken b e = taken-reply b (rw e) (kept-free _) (rw (e, translate-valid)) ∙ rw e
+
+      pub locates-row : isCommand 0x18 c s ≡ true → isOffDisk s ≡ false → Raised 0x15 (step c s .state)
+      unfolding translated translatedBy accepted
+      locates-row e w =
+          let h : Issued 0x18 c s = issued 0x18 c s e in
+          stepped-raised c s 0x18 _ (h .leaves)
+          (raised-by _ (ap seen (ap (λ (x : Reply). x .state) (translate-taken (h .byte) (h .code)) ∙ passed-over _ _ w)))
+
+      pub misses-row : isCommand 0x18 c s ≡ true → isOffDisk s ≡ true → Raised 0x45 (step c s .state)
+      unfolding translated translatedBy accepted
+      misses-row e w =
+          let h : Issued 0x18 c s = issued 0x18 c s e in
+          stepped-raised c s 0x18 _ (h .leaves)
+          (raised-by _ (ap seen (ap (λ (x : Reply). x .state) (translate-taken (h .byte) (h .code)) ∙ taken _ _ w)))
 
     module _ (x : s .wire .connection ≡ Connected) (p : s .registers .descriptor .phase ≡ 0x60) where
       resumable : isResumable s ≡ true

@@ -2,7 +2,7 @@
 --   good-step      a call whose operands are in range is carried out
 --   told           what a call does to the code at 17h and to what is pending
 --   Issued         a command, as the step takes it
---   issued         .. of a call that writes a command
+--   issued-by issued   .. of a call that writes a command
 --   reset-told     Reset raises 00
 --   Reading reading   a register read, as the step takes it
 --   access-step    a register access with its address and its mark known
@@ -86,20 +86,22 @@ never-blind : (b : ℕ) (s : State) → R.accessedAt 0x18 true b s ≡ commanded
 unfolding R.accessedAt R.isBlind R.writtenAt both either pick
 never-blind b s = by-test (busy s) (λ e. rw e) (λ e. rw e)
 
+pub issued-by : (k m b : ℕ) (s : State) → isCommand k (register m b) s ≡ true
+    → (codeOf b ≡ k) × (step (register m b) s ≡ plain (R.stepped 0x18 (commanded b s)))
+unfolding isCommand
+issued-by k m b s e =
+    let f : both (isSet m) (both (eqb (s .status .pointer) 0x18) (eqb (codeOf b) k)) ≡ true = both-second (isGood (register m b)) _ e in
+    let h : both (eqb (s .status .pointer) 0x18) (eqb (codeOf b) k) ≡ true = both-second (isSet m) _ f in (
+      eqb-true _ _ (both-second (eqb (s .status .pointer) 0x18) _ h),
+      access-step m b s 0x18 true (both-first _ _ e) (both-first _ _ f) (both-first _ _ h)
+          ∙ ap (λ (r : Reply). plain (R.stepped 0x18 r)) (never-blind b s),
+    )
+
 pub issued : (k : ℕ) (c : Call) (s : State) → isCommand k c s ≡ true → Issued k c s
 unfolding isCommand
 issued k (pointer m b) s e = clash e refl
 issued k auxiliary s e = clash e refl
-issued k (register m b) s e =
-    let f : both (isSet m) (both (eqb (s .status .pointer) 0x18) (eqb (codeOf b) k)) ≡ true = both-second (isGood (register m b)) _ e in
-    let h : both (eqb (s .status .pointer) 0x18) (eqb (codeOf b) k) ≡ true = both-second (isSet m) _ f in
-    record {
-      byte = b;
-      code = eqb-true _ _ (both-second (eqb (s .status .pointer) 0x18) _ h);
-      leaves =
-          access-step m b s 0x18 true (both-first _ _ e) (both-first _ _ f) (both-first _ _ h)
-          ∙ ap (λ (r : Reply). plain (R.stepped 0x18 r)) (never-blind b s);
-    }
+issued k (register m b) s e = record { byte = b; code = issued-by k m b s e .0; leaves = issued-by k m b s e .1 }
 issued k (block m l) s e = clash e refl
 issued k (time n) s e = clash e refl
 issued k answer s e = clash e refl

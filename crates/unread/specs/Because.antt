@@ -1,4 +1,4 @@
--- Why a code is raised: one table over every code of the first version, the call that raises it and the state that it is made in.
+-- Why a code is raised: one table over every code, the call that raises it and the state that it is made in.
 --   Because c s k        the table: the call c, made in s, raises the code k
 --   Brings c s k         its rows that end a running command: k is raised at once, or when the incoming bytes are read out
 --   Begins c s k         such a row with incoming bytes unread: an ending with k begins
@@ -11,6 +11,8 @@
 --   isIdle a             no command that Requests are for: none runs, or one that only selects
 --   Offered n b m p s    the Request n b m, of phase p, comes to the running command
 --   LastMessage n b m s  .. is the last Message In byte of a Transfer Info
+--   Translates c s       the call c is a Translate Address that s carries out
+--   isOffDisk s          the address in the registers is on no place of the disk in them
 --   expects g p b s      at the stage g a Request of phase p with the byte b is expected (expectsBody, expectsLate: two stages of it)
 --   isBeforeStatus g     the stage g is one that takes the messages 02 and 04
 --   wants p b s          the running command wants it: a byte of it would cross, were there room or a byte
@@ -32,6 +34,7 @@ use Rattle.chip.specs.Count.{noneLeft, isLast}
 use Rattle.chip.specs.Interrupts.{isIncoming, isOutgoing, bytesUnread}
 use Rattle.chip.specs.Activity.{isRunning, goesOn, isSelectAndTransfer, isTransferInfo}
 use Rattle.chip.specs.SelectAndTransfer.{stage}
+use Rattle.chip.specs.Translate.{geometryOf, addressOf, exceeds}
 use Rattle.chip.specs.Commands.{isValid, abortPhase, resetCode}
 use Rattle.chip.specs.Connections.{isConnected, isWaiting}
 use Rattle.chip.specs.Events.{namesTarget}
@@ -40,7 +43,7 @@ use Rattle.chip.specs.declared.State.{State}
 use Rattle.chip.specs.declared.Stage.{Stage}
 use Rattle.chip.specs.declared.Stage.the-variants.{SendIdentify, SendCommand, Body, AfterData, Disconnecting, Reselected, AfterStatus, Elsewhere}
 use Rattle.chip.specs.declared.Activity.{Activity}
-use Rattle.chip.specs.declared.Connection.the-variants.{Selecting, Connected}
+use Rattle.chip.specs.declared.Connection.the-variants.{Disconnected, Selecting, Connected}
 use Rattle.chip.specs.declared.Phase.{Phase}
 use Rattle.chip.specs.declared.Phase.the-variants.{DataOut, DataIn, CommandOut, StatusIn, UnspecifiedOut, UnspecifiedIn, MessageOut, MessageIn}
 use Rattle.unread.specs.Status.{Nothing, Ending, ReadOut, pending, isCommand, isReset, readsAt, raised}
@@ -125,6 +128,15 @@ pub record LastMessage (n b m : ℕ) (s : State) : Type 0 where
   pub room : hasRoom (s .fifo) ≡ true
   pub sound : halts m s ≡ false
 
+pub record Translates (c : Call) (s : State) : Type 0 where
+  pub command : isCommand 0x18 c s ≡ true
+  pub quiet : Quiet s
+  pub idle : isRunning (s .activity) ≡ false
+  pub apart : s .wire .connection ≡ Disconnected
+
+abbrev pub isOffDisk : State → Bool
+isOffDisk s = exceeds (geometryOf (s .registers .descriptor .cdb)) (addressOf (s .registers .descriptor .cdb))
+
 -- the table
 
 pub data Brings : Call → State → ℕ → Type 0 where
@@ -186,6 +198,8 @@ pub data Because : Call → State → ℕ → Type 0 where
   -- 11h: Answer to a Select
   answers : {s : State} → goesOn (s .activity) ≡ true → s .wire .connection ≡ Selecting → isSelectAndTransfer (s .activity) ≡ false
       → Because answer s 0x11
+  -- 15h: Translate Address, of an address that is on the disk
+  locates : {c : Call} {s : State} → Translates c s → isOffDisk s ≡ false → Because c s 0x15
   -- 16h: the resume at 60h
   resumes : {c : Call} {s : State} (k : ℕ) → isCommand k c s ≡ true → either (eqb k 0x08) (eqb k 0x09) ≡ true → Quiet s
       → isRunning (s .activity) ≡ false → s .wire .connection ≡ Connected → s .registers .descriptor .phase ≡ 0x60
@@ -203,6 +217,8 @@ pub data Because : Call → State → ℕ → Type 0 where
   times-out : {n : ℕ} {s : State} → isGood (time n) ≡ true → goesOn (s .activity) ≡ true → s .wire .connection ≡ Selecting
       → eqb (s .registers .setup .timeout) 0 ≡ false → leb (s .registers .setup .timeout) (s .wire .elapsed + n) ≡ true
       → Because (time n) s 0x42
+  -- 45h: Translate Address, of an address that is not
+  misses : {c : Call} {s : State} → Translates c s → isOffDisk s ≡ true → Because c s 0x45
   -- 80h: Reselection, not connected, other than by the Target that a waiting Select-And-Transfer names
   reselects : {lines : ℕ} {s : State} → isGood (reselection lines) ≡ true → Quiet s → qualifies lines s ≡ true
       → isConnected (s .wire .connection) ≡ false → both (isWaiting (s .wire .connection)) (namesTarget lines s) ≡ false

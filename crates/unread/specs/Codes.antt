@@ -20,7 +20,7 @@ use Rattle.chip.specs.declared.State.{State}
 use Rattle.chip.specs.declared.Phase.{Phase}
 use Rattle.chip.specs.declared.Connection.the-variants.{Disconnected, Selecting, Connected}
 use Rattle.unread.specs.Status.{Ending, pending, isCommand, isReset, isSelection, isAnswer, raised}
-use Rattle.unread.specs.Because.{Begins, ReadsOut, isIdle}
+use Rattle.unread.specs.Because.{Begins, ReadsOut, Translates, isIdle}
 use Rattle.chip.specs.Commands.{resetCode}
 
 pub record Raises (f : Call → State → Outcome) (l : List Call) (c : Call) (k : ℕ) : Type 0 where
@@ -57,6 +57,9 @@ pub record CodesOnlyBy (f : Call → State → Outcome) : Type 0 where
   pub by-reset : (l : List Call) (c : Call) (s : State) → Raises f l c (resetCode s) → isReset c (run f l fresh) ≡ true
   -- 11h only by an Answer, while selecting
   pub by-answer : (l : List Call) (c : Call) → Raises f l c 0x11 → (c ≡ answer) × (run f l fresh .wire .connection ≡ Selecting)
+  -- 15h and 45h only by Translate Address, Disconnected, with no command running and no status unread
+  pub by-translation : (l : List Call) (c : Call) → Raises f l c 0x15 → Translates c (run f l fresh)
+  pub by-failed-translation : (l : List Call) (c : Call) → Raises f l c 0x45 → Translates c (run f l fresh)
   -- 16h only with no incoming byte unread
   pub all-read : (l : List Call) (c : Call) → Raises f l c 0x16 → bytesUnread (f c (run f l fresh) .state) ≡ false
   -- 22h only by Abort

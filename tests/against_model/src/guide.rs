@@ -1,6 +1,7 @@
 //! A host and a Target that mostly behave, with noise: the next calls are chosen by the model's state.
 
 use crate::call::Call;
+use crate::drives;
 use crate::noise;
 use crate::random::Random;
 use model::{Connection, Controller, Running, Way};
@@ -10,6 +11,7 @@ const OWN_ID: u32 = 0x00;
 const CONTROL: u32 = 0x01;
 const TIMEOUT: u32 = 0x02;
 const CDB_1: u32 = 0x03;
+const SECTOR_NUMBER: u32 = 0x0b;
 const TARGET_LUN: u32 = 0x0f;
 const COMMAND_PHASE: u32 = 0x10;
 const COUNT_HIGH: u32 = 0x12;
@@ -179,6 +181,42 @@ impl Guide {
         }
     }
 
+    /// The host of a bare drive. The place comes to stand where parameters stood: a second command without a load takes it for
+    /// them. Afterwards the registers mostly hold command bytes again.
+    fn translate(&mut self, random: &mut Random) {
+        match random.below(10) {
+            0..=7 => self.load_drive(drives::registers(random)),
+            8 => self.load_drive([(); 12].map(|()| random.byte())),
+            _ => {}
+        }
+        self.translate_what_stands(random);
+        if random.percent(25) {
+            self.translate_what_stands(random);
+        }
+        if random.percent(80) {
+            self.load_command_bytes(random);
+        }
+    }
+
+    fn load_drive(&mut self, registers: [u8; 12]) {
+        self.push(Call::Pointer { mark: 1, byte: CDB_1 });
+        for byte in registers {
+            self.push(Call::Register { mark: 1, byte: byte.into() });
+        }
+    }
+
+    fn translate_what_stands(&mut self, random: &mut Random) {
+        let code = random.one_of(&[0x18, 0x18, 0x18, 0x98]);
+        self.command(code, random);
+        if random.percent(90) {
+            self.read_at(SCSI_STATUS);
+        }
+        if random.percent(80) {
+            self.read_at(SECTOR_NUMBER);
+            (0..3).for_each(|_| self.push(Call::Register { mark: 0, byte: 0 }));
+        }
+    }
+
     fn move_data(&mut self, state: &Controller, random: &mut Random) {
         let due = u32::from(state.way == Way::Out);
         let mark = if random.percent(4) { 1 - due } else { due };
@@ -224,8 +262,9 @@ impl Guide {
     fn disconnected(&mut self, state: &Controller, turn: u32, random: &mut Random) {
         match turn {
             0..=199 if !state.er() => self.write_at(SOURCE_ID, 0x80),
-            0..=379 => self.prepare(random),
-            380..=699 => {
+            0..=359 => self.prepare(random),
+            360..=399 => self.translate(random),
+            400..=699 => {
                 let code = random.one_of(&[0x08, 0x08, 0x09]);
                 self.command(code, random);
             }

@@ -1,13 +1,16 @@
 //! Images to lend: any state's, reached or not, one near a reached state, and bytes that are no image.
 
+use crate::drives;
 use crate::random::Random;
 use model::{Image, IMAGE_LENGTH};
 
 /// Byte and first value out of range (docs/IMAGE.md).
 const LIMITS: [(usize, u32); 13] =
     [(26, 2), (27, 2), (28, 4), (30, 4), (31, 6), (32, 3), (33, 2), (34, 2), (35, 2), (36, 9), (37, 9), (38, 8), (40, 13)];
+const POINTER: usize = 25;
 const PENDING: usize = 28;
 const ENDING_CODE: usize = 29;
+const CONNECTION: usize = 30;
 const COMMAND: usize = 31;
 const WAITING: usize = 40;
 const FIFO: usize = 41;
@@ -26,8 +29,17 @@ fn lead_on(image: &mut Image, random: &mut Random) {
     image[19] = random.one_of(&[0, 0, 0, any]);
     image[20] = random.one_of(&[0, 1, 2, 12, any]);
     image[22] = random.one_of(&[0x80, 0x80, 0, any]);
-    image[25] = random.one_of(&[0x17, 0x18, 0x19, any & 0x1f, any]);
-    image[28] = random.one_of(&[0, 0, 0, 1, 2, 3]);
+    image[POINTER] = random.one_of(&[0x17, 0x18, 0x19, any & 0x1f, any]);
+    image[PENDING] = random.one_of(&[0, 0, 0, 1, 2, 3]);
+}
+
+/// Disconnected and idle, a drive in the registers, the pointer at 18h: Translate Address is the next command.
+fn await_translation(image: &mut Image, random: &mut Random) {
+    image[3..15].copy_from_slice(&drives::registers(random));
+    image[POINTER] = 0x18;
+    image[PENDING] = 0;
+    image[CONNECTION] = 0;
+    image[COMMAND] = 0;
 }
 
 /// Unused places to 0, INT only where no command runs, an ending only where one does, its code only with an ending.
@@ -54,6 +66,9 @@ pub fn any_state(random: &mut Random) -> Image {
     }
     if random.percent(85) {
         lead_on(&mut image, random);
+    }
+    if random.percent(8) {
+        await_translation(&mut image, random);
     }
     tidy(&mut image, random);
     image

@@ -8,12 +8,14 @@
 
 mod call;
 mod cases;
+mod drives;
 mod guide;
 mod images;
 // The declarations that rust/ uses: one list for both.
 #[path = "../../../rust/src/entries.rs"]
 mod library;
 mod mistakes;
+mod mistranslation;
 mod noise;
 mod pair;
 mod random;

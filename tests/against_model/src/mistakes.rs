@@ -1,8 +1,9 @@
 //! Models that are wrong on purpose: the run has to catch each, or it proves nothing. The first four are the paper's "Readings to
 //! shut out"; then some of its programs that "have to fall"; then the fault that the library is proved against, and one like it; then
-//! three that paper 02's Req 14 shuts out; then mistakes that are easily made.
+//! three that paper 02's Req 14 shuts out; then mistakes that are easily made, those of Translate Address last.
 
 use crate::call::{Call, Slice};
+use crate::mistranslation::{mistranslate, Mistranslation};
 use model::{Answer, Connection, Controller, Image, Pending, Running, Way};
 
 #[derive(Clone, Copy, PartialEq, Debug)]
@@ -29,10 +30,11 @@ pub enum Mistake {
     ReturnForgetsDirection,
     StatusKeepsOutgoingFifo,
     LunTakenForBusIdentity,
+    Translation(Mistranslation),
 }
 
 impl Mistake {
-    pub const ALL: [Mistake; 22] = [
+    pub const ALL: [Mistake; 32] = [
         Mistake::CountFallsOnHostWrite,
         Mistake::AuxiliaryReadClearsInt,
         Mistake::SuccessCodeBeforeReadOut,
@@ -55,6 +57,16 @@ impl Mistake {
         Mistake::ReturnForgetsDirection,
         Mistake::StatusKeepsOutgoingFifo,
         Mistake::LunTakenForBusIdentity,
+        Mistake::Translation(Mistranslation::CylinderCutBeforeCompared),
+        Mistake::Translation(Mistranslation::HeadCutBeforeCompared),
+        Mistake::Translation(Mistranslation::CylinderNotCompared),
+        Mistake::Translation(Mistranslation::HeadNotCompared),
+        Mistake::Translation(Mistranslation::SparesTakenOffAgain),
+        Mistake::Translation(Mistranslation::LimitsWithoutSpares),
+        Mistake::Translation(Mistranslation::Cylinders4096Refused),
+        Mistake::Translation(Mistranslation::Heads15Refused),
+        Mistake::Translation(Mistranslation::NoPlaceIsWritten),
+        Mistake::Translation(Mistranslation::TakenWhenConnected),
     ];
 
     /// The state that lent bytes say to a model with the mistake.
@@ -116,9 +128,11 @@ impl Mistake {
             (Mistake::TimeHeldOverUnreadStatus, Call::Time { .. }, Answer::Done(_)) if before.has_interrupt() => {
                 return Answer::Held;
             }
-            (Mistake::TimeoutOneUnitLate, Call::Time { units }, _) if before.connection == Connection::Selecting => {
+            (Mistake::TimeoutOneUnitLate, Call::Time { units: units @ 1..=255 }, _)
+                if before.connection == Connection::Selecting =>
+            {
                 let sum = u32::from(before.elapsed) + units;
-                if units > 0 && sum == u32::from(before.registers[2]) {
+                if sum == u32::from(before.registers[2]) {
                     *state = before;
                     state.elapsed = sum as u8;
                 }
@@ -169,6 +183,11 @@ impl Mistake {
                     state.code = 0x80;
                     state.running = Running::Nothing;
                 }
+            }
+            (Mistake::Translation(wrongly), Call::Register { mark: 1, byte: 0x18 | 0x98 }, Answer::Done(_))
+                if before.pointer == 0x18 =>
+            {
+                mistranslate(wrongly, &before, state);
             }
             _ => {}
         }

@@ -71,6 +71,8 @@ fn lent(pair: &Pair, guide: &mut Guide, random: &mut Random) -> Call {
         (35..=37, _) => Call::Lend(images::damaged(&pair.library, random)),
         (38..=54, _) => noise(random),
         (55, _) => Call::Fresh,
+        // Only a lent image brings some states before this command.
+        (56..=59, Some(state)) if state.pointer == 0x18 => Call::Register { mark: 1, byte: random.one_of(&[0x18, 0x98]) },
         (56..=75, Some(state)) => Guide::target_turn(state, random),
         (_, Some(state)) => guide.next_call(state, random),
         (_, None) => noise(random),

@@ -10,9 +10,9 @@ pub struct Seen {
     codes: [u64; 256],
 }
 
-/// The codes of the paper.
+/// The codes of the papers.
 fn is_code(code: u8) -> bool {
-    let alone = [0x00, 0x11, 0x16, 0x20, 0x21, 0x22, 0x40, 0x41, 0x42, 0x43, 0x80, 0x85];
+    let alone = [0x00, 0x11, 0x15, 0x16, 0x20, 0x21, 0x22, 0x40, 0x41, 0x42, 0x43, 0x45, 0x80, 0x85];
     alone.contains(&code) || matches!(code & 0xf8, 0x18 | 0x28 | 0x48 | 0x88)
 }
 
@@ -45,7 +45,7 @@ impl Seen {
         }
     }
 
-    /// Codes of the paper that were never raised.
+    /// Codes of the papers that were never raised.
     pub fn missing_codes(&self) -> Vec<u8> {
         (0..=255).filter(|code| is_code(*code) && self.codes[usize::from(*code)] == 0).collect()
     }

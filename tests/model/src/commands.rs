@@ -4,7 +4,7 @@ use crate::answers::Answer;
 use crate::select_and_transfer::command_size;
 use crate::state::{BusId, Connection, Controller, Pending, Phase, Running, Way, CDB_1, CONTROL, OWN_ID};
 
-/// The commands of the first version, bit 7 taken off.
+/// The commands of the first version and Translate Address, bit 7 taken off.
 #[derive(Clone, Copy, PartialEq, Eq)]
 enum Code {
     Reset,
@@ -19,6 +19,7 @@ enum Code {
         with_atn: bool,
     },
     SetIdi,
+    TranslateAddress,
     TransferInfo,
     /// "Codes it lacks, left-out ones and those above 21h count as Level II", and are never valid.
     Other,
@@ -37,6 +38,7 @@ impl Code {
             0x08 => Code::SelectAndTransfer { with_atn: true },
             0x09 => Code::SelectAndTransfer { with_atn: false },
             0x0f => Code::SetIdi,
+            0x18 => Code::TranslateAddress,
             0x20 => Code::TransferInfo,
             _ => Code::Other,
         }
@@ -88,7 +90,8 @@ impl Controller {
             Code::Abort => self.is_busy() && !self.is_ending(),
             Code::AssertAtn | Code::NegateAck | Code::Disconnect => is_connected,
             Code::SetIdi => is_connected || self.connection == Connection::Waiting,
-            Code::Select { .. } => self.connection == Connection::Disconnected,
+            // Translate Address: "Add it for the Disconnected state" (paper 02, Req 01).
+            Code::Select { .. } | Code::TranslateAddress => self.connection == Connection::Disconnected,
             Code::SelectAndTransfer { .. } => match self.connection {
                 Connection::Disconnected => self.has_known_group(),
                 Connection::Connected => self.may_resume(),
@@ -120,6 +123,7 @@ impl Controller {
             Code::SetIdi => self.registers[CONTROL] |= 0x04,
             Code::Select { with_atn } => self.start_selecting(Running::Select { with_atn }),
             Code::SelectAndTransfer { with_atn } => self.start_or_resume(with_atn),
+            Code::TranslateAddress => self.translate_address(),
             Code::TransferInfo => self.start_transfer_info(is_single),
             Code::Reset | Code::Other => unreachable!("not carried out here"),
         }

@@ -1,4 +1,5 @@
-//! An independent model of the Am33C93A, written from paper 01 and its readings, a file for each section of the paper.
+//! An independent model of the Am33C93A, written from paper 01 and its readings, a file for each section of the paper, and from
+//! paper 02's requests 01 (translate.rs) and 14.
 //!
 //! It shares no code with the proved library. The form of an image is docs/IMAGE.md's, and states that no calls reach are treated
 //! as docs/DECISIONS.md says. Where these and the paper leave something open, ten small places, it was made to follow the library
@@ -21,6 +22,7 @@ mod registers;
 mod select_and_transfer;
 mod state;
 mod transfer_info;
+mod translate;
 
 pub use answers::Answer;
 pub use fifo::{Fifo, FIFO_SIZE};

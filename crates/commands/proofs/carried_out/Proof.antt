@@ -73,12 +73,19 @@ returns-9 : tie.Need-returns-9
 unfolding carriedOut pick
 returns-9 c = simp (ne-eqb _ _ (c .before .before .before .before .before .before .before .before .before .before .if1 .left), ne-eqb _ _ (c .before .before .before .before .before .before .before .before .before .if2 .left), ne-eqb _ _ (c .before .before .before .before .before .before .before .before .if3 .left), ne-eqb _ _ (c .before .before .before .before .before .before .before .if4 .left), ne-eqb _ _ (c .before .before .before .before .before .before .if5 .left), ne-eqb _ _ (c .before .before .before .before .before .if6 .left), ne-eqb _ _ (c .before .before .before .before .if7 .left), ne-eqb _ _ (c .before .before .before .if8 .left), eq-eqb _ _ (c .before .before .if9 .taken), c .before .with-idi .ensures, c .control .ensures)
 
-transfer-info-begun-requires : tie.Need-transfer-info-begun-requires
-transfer-info-begun-requires c κs = search needs
+translated-requires : tie.Need-translated-requires
+translated-requires c κs = search needs
 
 returns-10 : tie.Need-returns-10
 unfolding carriedOut pick
-returns-10 c = simp (ne-eqb _ _ (c .before .before .before .before .before .before .before .before .before .if1 .left), ne-eqb _ _ (c .before .before .before .before .before .before .before .before .if2 .left), ne-eqb _ _ (c .before .before .before .before .before .before .before .if3 .left), ne-eqb _ _ (c .before .before .before .before .before .before .if4 .left), ne-eqb _ _ (c .before .before .before .before .before .if5 .left), ne-eqb _ _ (c .before .before .before .before .if6 .left), ne-eqb _ _ (c .before .before .before .if7 .left), ne-eqb _ _ (c .before .before .if8 .left), ne-eqb _ _ (c .before .if9 .left), c .transfer-info-begun .ensures)
+returns-10 c = simp (ne-eqb _ _ (c .before .before .before .before .before .before .before .before .before .before .if1 .left), ne-eqb _ _ (c .before .before .before .before .before .before .before .before .before .if2 .left), ne-eqb _ _ (c .before .before .before .before .before .before .before .before .if3 .left), ne-eqb _ _ (c .before .before .before .before .before .before .before .if4 .left), ne-eqb _ _ (c .before .before .before .before .before .before .if5 .left), ne-eqb _ _ (c .before .before .before .before .before .if6 .left), ne-eqb _ _ (c .before .before .before .before .if7 .left), ne-eqb _ _ (c .before .before .before .if8 .left), ne-eqb _ _ (c .before .before .if9 .left), eq-eqb _ _ (c .before .if10 .taken), c .translated .ensures)
+
+transfer-info-begun-requires : tie.Need-transfer-info-begun-requires
+transfer-info-begun-requires c κs = search needs
+
+returns-11 : tie.Need-returns-11
+unfolding carriedOut pick
+returns-11 c = simp (ne-eqb _ _ (c .before .before .before .before .before .before .before .before .before .before .if1 .left), ne-eqb _ _ (c .before .before .before .before .before .before .before .before .before .if2 .left), ne-eqb _ _ (c .before .before .before .before .before .before .before .before .if3 .left), ne-eqb _ _ (c .before .before .before .before .before .before .before .if4 .left), ne-eqb _ _ (c .before .before .before .before .before .before .if5 .left), ne-eqb _ _ (c .before .before .before .before .before .if6 .left), ne-eqb _ _ (c .before .before .before .before .if7 .left), ne-eqb _ _ (c .before .before .before .if8 .left), ne-eqb _ _ (c .before .before .if9 .left), ne-eqb _ _ (c .before .if10 .left), c .transfer-info-begun .ensures)
 
 pub carried-out-spec : {M : Type 1} → statement M
 carried-out-spec =
@@ -103,5 +110,7 @@ carried-out-spec =
     with-idi-requires
     control-requires
     returns-9
+    translated-requires
+    returns-10
     transfer-info-begun-requires
-    returns-10)
+    returns-11)

@@ -7,10 +7,10 @@ use Rattle.sessions.proofs.codes.say_all.Statement.{statement}
 use Rattle.sessions.proofs.codes.say_all.Tie as tie
 
 abbrev Inv-loop : tie.InvT-loop
-Inv-loop first read₀ k₀ read k = (read ≤ k) × (k ≤ 44)
+Inv-loop first read₀ k₀ read k = (read ≤ k) × (k ≤ 46)
 
 abbrev μ-loop : tie.MeasureT-loop
-μ-loop first read₀ k₀ read k = 44 - k
+μ-loop first read₀ k₀ read k = 46 - k
 
 loop-holds : tie.Need-loop-holds Inv-loop μ-loop
 loop-holds c = search needs

@@ -7,10 +7,10 @@ use Rattle.sessions.proofs.tables.row_of_code.Statement.{statement}
 use Rattle.sessions.proofs.tables.row_of_code.Tie as tie
 
 abbrev Inv-loop : tie.InvT-loop
-Inv-loop code k₀ k = k ≤ 44
+Inv-loop code k₀ k = k ≤ 46
 
 abbrev μ-loop : tie.MeasureT-loop
-μ-loop code k₀ k = 44 - k
+μ-loop code k₀ k = 46 - k
 
 loop-holds : tie.Need-loop-holds Inv-loop μ-loop
 loop-holds c = search needs
