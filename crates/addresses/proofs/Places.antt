@@ -3,32 +3,31 @@
 --   Carried carried          what the step makes of a Translate Address
 --   places-right leaves-the-rest   the laws of specs/Places.antt
 use mathlib.Core.Path.{_≡_, refl, sym, ap, _∙_}
-use mathlib.Core.Bool.{Bool, true, false}
-use mathlib.Core.List.{List, [], _∷_}
-use mathlib.Core.Logic.{_⊎_, inl, inr, ⊎-elim}
-use Prim.Native.Nat.{ℕ, zero, suc, _+_, _-_, _*_, _/_, _%_, _<_, _≤_}
+use mathlib.Core.Bool.{true, false}
+use mathlib.Core.List.{List}
+use mathlib.Core.Logic.{_⊎_, inl, ⊎-elim}
+use Prim.Native.Nat.{ℕ, _+_, _-_, _*_, _/_, _%_, _<_}
 use native.Mathlib.Nat.{add-assoc, mod-lt, div-add-mod', lt-irrefl}
 use native.Mathlib.Omega.{arith}
 use lib.Arith.{digits-div, digits-mod}
 use lib.Dec.{eqb, ltb}
 use lib.ListN.{length, getD, set, length-set}
 use lib.Seq.{getD-set-same, getD-set-other}
-use Rattle.chip.specs.Choice.{pick, both, either}
-use Rattle.chip.specs.Lines.{codeOf, isSingle}
+use Rattle.chip.specs.Choice.{pick, either}
 use Rattle.chip.specs.Answers.{done}
 use Rattle.chip.specs.State.{withCdb, setCdb}
 use Rattle.chip.specs.Interrupts.{raise, outgoingDropped}
-use Rattle.chip.specs.Translate.{Geometry, Physical, cylinderOf, headOf, sectorOf, geometryOf, addressOf, exceeds, physicalOf, placed, translatedBy, translated}
+use Rattle.chip.specs.Translate.{Geometry, Physical, cylinderOf, headOf, sectorOf, geometryOf, addressOf, physicalOf, placed, translatedBy, translated}
 use Rattle.chip.specs.Registers as R
 use Rattle.chip.specs.Registers.{registerAt}
 use Rattle.chip.specs.Commands.{accepted}
-use Rattle.chip.specs.Calls.{Call, Outcome, register, isGood, isSet, plain, step}
+use Rattle.chip.specs.Calls.{Outcome, register, isGood, isSet, plain, step}
 use Rattle.chip.specs.declared.State.{State}
 use Rattle.chip.specs.declared.Reply.{Reply}
 use Rattle.chip.specs.declared.Registers.{Registers}
 use Rattle.chip.specs.declared.Answer.the-variants.{Done}
 use Rattle.chip.specs.declared.Activity.the-variants.{Interrupt}
-use Rattle.chip.proofs.Cases.{by-case, by-test, both-first, both-second, taken, passed-over}
+use Rattle.chip.proofs.Cases.{by-test, both-first, both-second, taken, passed-over}
 use Rattle.chip.proofs.Translate.{Within, within, exceeds-not}
 use Rattle.unread.specs.Because.{Translates, isOffDisk}
 use Rattle.unread.proofs.Choosing.{clash}
@@ -36,7 +35,7 @@ use Rattle.unread.proofs.Told.{issued-by}
 use Rattle.unread.proofs.Rows.{translate-taken}
 use Rattle.unread.specs.Status.{isCommand}
 use borrow.Author.Tests.{eqb-true, ltb-true}
-use Rattle.addresses.specs.Places.{Limits, Lies, cdbOf, LiesIn, Shows, PlacesRight, Kept, LeavesTheRest}
+use Rattle.addresses.specs.Places.{Lies, cdbOf, Shows, PlacesRight, Kept, LeavesTheRest}
 
 -- ---- the place
 

@@ -5,32 +5,28 @@
 --   strict-refuses gives-up-refuses                       .. 45h for a place that is there
 --   smears-writes clobbers-writes lingers-waits           by LeavesTheRest
 --   reaches-connected tramples-unread                     by CodesOnlyBy
-use mathlib.Core.Path.{_≡_, refl, sym, ap, _∙_}
-use mathlib.Core.Bool.{true, false}
+--   any-disk-doubles   and the controller itself refuses SamePlaceOnAnyDisk: the claim is for one disk
+use mathlib.Core.Path.{refl, sym, ap}
 use mathlib.Core.List.{List, [], _∷_, _++_}
-use mathlib.Core.Logic.{_⊎_, inl, inr}
-use Prim.Native.Nat.{ℕ, _+_, _*_, _<_}
+use mathlib.Core.Logic.{inl}
+use Prim.Native.Nat.{ℕ, _+_}
 use native.Mathlib.Omega.{arith}
 use lib.Dec.{eqb}
-use lib.ListN.{getD}
 use Rattle.chip.specs.State.{fresh}
 use Rattle.chip.specs.Activity.{isInterrupt}
 use Rattle.chip.specs.Connections.{isDisconnected}
 use Rattle.chip.specs.Registers.{registerAt}
 use Rattle.chip.specs.Translate.{Physical, geometryOf, addressOf}
-use Rattle.chip.specs.Calls.{Call, Outcome, pointer, register, answer, free, run}
-use Rattle.chip.specs.declared.State.{State}
+use Rattle.chip.specs.Calls.{Call, pointer, register, answer, step, run}
 use Rattle.chip.specs.declared.Registers.{Registers}
-use Rattle.chip.specs.declared.Activity.{Activity}
 use Rattle.chip.proofs.Computing.{everything}
 use Rattle.unread.specs.Status.{isCommand, isReset, raised}
-use Rattle.unread.specs.Because.{Translates}
 use Rattle.unread.specs.Codes.{CodesOnlyBy}
 use Rattle.unread.specs.Wrong.{instead}
 use Rattle.unread.proofs.Choosing.{clash}
 use Rattle.unread.proofs.Pendings.{int-by}
-use Rattle.addresses.specs.Places.{Limits, Lies, LiesIn, PlacesRight, LeavesTheRest}
-use Rattle.addresses.specs.SamePlace.{SamePlaceSameAddress}
+use Rattle.addresses.specs.Places.{Lies, PlacesRight, LeavesTheRest}
+use Rattle.addresses.specs.SamePlace.{SamePlaceSameAddress, SamePlaceOnAnyDisk}
 use Rattle.addresses.specs.Wrong.{isTranslation, by, translatesBy, cuts, cutsHeads, skips, shrinks, believes, smears, strict, loose, givesUp, agrees, countsFromOne, turns, clobbers, lingers, reaches, tramples}
 
 -- the bytes written one after the other, from the register at the pointer up
@@ -53,6 +49,20 @@ cuts-doubles h =
     (ap (λ (n : ℕ). eqb n 0)
     (h .same (narrow 0) (narrow 1) 0x18 0x18 (record { apart = refl; idle = refl }) (record { apart = refl; idle = refl })
     (record { sectors = refl; heads = refl; cylinders-high = refl; cylinders-low = refl; spares = refl; per-cylinder-high = λ e. refl; per-cylinder-low = λ e. refl })
+    (record { byte = omega arith; command = refl; code = refl }) (record { byte = omega arith; command = refl; code = refl })
+    (record { sector = refl; head = refl; cylinder-high = refl; cylinder-low = refl })))
+
+-- the address n on a disk of so many sectors on a track, 4 heads and 615 cylinders
+abbrev disk : ℕ → ℕ → List Call
+disk sectors n = loads (sectors ∷ 4 ∷ 2 ∷ 0x67 ∷ 0 ∷ 0 ∷ 0 ∷ n ∷ 0 ∷ 0 ∷ 0 ∷ 0 ∷ [])
+
+-- the first sector of head 1 is number 17 on a disk of 17 sectors, and number 18 on one of 18
+pub any-disk-doubles : SamePlaceOnAnyDisk step → ⊥
+unfolding everything run
+any-disk-doubles h =
+    clash refl
+    (ap (λ (n : ℕ). eqb n 17)
+    (h .same (disk 17 17) (disk 18 18) 0x18 0x18 (record { apart = refl; idle = refl }) (record { apart = refl; idle = refl })
     (record { byte = omega arith; command = refl; code = refl }) (record { byte = omega arith; command = refl; code = refl })
     (record { sector = refl; head = refl; cylinder-high = refl; cylinder-low = refl })))
 

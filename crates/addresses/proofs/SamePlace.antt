@@ -4,14 +4,12 @@
 --   same-place-same-address   the law of specs/SamePlace.antt
 use mathlib.Core.Path.{_≡_, refl, sym, ap, ap₂, _∙_}
 use mathlib.Core.Bool.{Bool, true, false, not}
-use mathlib.Core.List.{List}
-use Prim.Native.Nat.{ℕ, _+_, _*_, _/_, _%_, _<_}
+use Prim.Native.Nat.{ℕ, _+_, _*_, _/_, _%_}
 use native.Mathlib.Nat.{div-add-mod'}
 use lib.Dec.{eqb, leb}
-use lib.ListN.{length, getD}
+use lib.ListN.{length}
 use borrow.Author.Tests.{eq-eqb, lt-ltb}
 use Rattle.chip.specs.Choice.{pick, both, either}
-use Rattle.chip.specs.Lines.{codeOf}
 use Rattle.chip.specs.State.{fresh, setPointer}
 use Rattle.chip.specs.Answers.{value}
 use Rattle.chip.specs.Interrupts.{busy}
@@ -19,10 +17,9 @@ use Rattle.chip.specs.Activity.{isRunning}
 use Rattle.chip.specs.Translate.{Geometry, Physical, joined, hasSparesIn, perCylinderIn, geometryOf, addressOf}
 use Rattle.chip.specs.Registers as R
 use Rattle.chip.specs.Registers.{registerAt}
-use Rattle.chip.specs.Calls.{Call, Outcome, pointer, register, isGood, isByte, carried, step, run}
+use Rattle.chip.specs.Calls.{Outcome, pointer, register, isGood, carried, step, run}
 use Rattle.chip.specs.declared.State.{State}
 use Rattle.chip.specs.declared.Reply.{Reply}
-use Rattle.chip.specs.declared.Activity.{Activity}
 use Rattle.chip.specs.declared.Answer.{Answer}
 use Rattle.chip.specs.declared.Answer.the-variants.{Done}
 use Rattle.chip.proofs.Cases.{by-test, taken, passed-over}
@@ -30,7 +27,7 @@ use Rattle.reached.proofs.Laws.{reached}
 use Rattle.unread.specs.Status.{isCommand}
 use Rattle.unread.specs.Because.{Translates}
 use Rattle.unread.proofs.Told.{good-step, access-step}
-use Rattle.addresses.specs.Places.{Lies, cdbOf, LiesIn, Shows}
+use Rattle.addresses.specs.Places.{cdbOf, LiesIn}
 use Rattle.addresses.specs.SamePlace.{reads, commanded, Ready, hasNoSparesRead, SameDisk, addressRead, Translated, SamePlace, SamePlaceSameAddress}
 use Rattle.addresses.proofs.Places.{places-right, leaves-the-rest}
 

@@ -7,6 +7,7 @@
 --   Translated f b s       b is 18h or 98h, and after it 17h reads 15h
 --   SamePlace f s t        0Bh to 0Eh read the same in both
 --   SamePlaceSameAddress f   the claim, of any two lists of calls from a fresh controller
+--   SamePlaceOnAnyDisk f     too much: the same with any two disks. It is false of the controller
 use mathlib.Core.Path.{_≡_}
 use mathlib.Core.Bool.{Bool, false}
 use mathlib.Core.List.{List}
@@ -62,6 +63,12 @@ pub record SamePlace (f : Call → State → Outcome) (s t : State) : Type 0 whe
 
 pub record SamePlaceSameAddress (f : Call → State → Outcome) : Type 0 where
   pub same : (l m : List Call) (b d : ℕ) → Ready (run f l fresh) → Ready (run f m fresh) → SameDisk f (run f l fresh) (run f m fresh)
+      → Translated f b (run f l fresh) → Translated f d (run f m fresh)
+      → SamePlace f (commanded f b (run f l fresh)) (commanded f d (run f m fresh))
+      → addressRead f (run f l fresh) ≡ addressRead f (run f m fresh)
+
+pub record SamePlaceOnAnyDisk (f : Call → State → Outcome) : Type 0 where
+  pub same : (l m : List Call) (b d : ℕ) → Ready (run f l fresh) → Ready (run f m fresh)
       → Translated f b (run f l fresh) → Translated f d (run f m fresh)
       → SamePlace f (commanded f b (run f l fresh)) (commanded f d (run f m fresh))
       → addressRead f (run f l fresh) ≡ addressRead f (run f m fresh)

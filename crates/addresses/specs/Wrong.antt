@@ -20,8 +20,8 @@
 --   translatesBy g r p  .. with the disk by g, refusals by r and places by p
 use mathlib.Core.Bool.{Bool, true, false, not}
 use mathlib.Core.List.{List}
-use Prim.Native.Nat.{ℕ, suc, _+_, _-_, _*_, _%_}
-use lib.Dec.{eqb, leb}
+use Prim.Native.Nat.{ℕ, suc, _-_, _*_, _%_}
+use lib.Dec.{leb}
 use lib.ListN.{getD, set}
 use Rattle.chip.specs.Choice.{pick, both, either}
 use Rattle.chip.specs.State.{setCdb, setActivity}

@@ -10,7 +10,7 @@ use native.Mathlib.Omega.{arith}
 use lib.Dec.{eqb, ltb}
 use lib.ListN.{length, set, length-set}
 use borrow.Author.Tests.{ltb-false, leb-false, eqb-false, le-ltb, lt-leb, ne-eqb}
-use Rattle.chip.specs.Choice.{pick, both, either}
+use Rattle.chip.specs.Choice.{both, either}
 use Rattle.chip.specs.State.{setCdb}
 use Rattle.chip.specs.Interrupts.{raise}
 use Rattle.chip.specs.Translate.{Geometry, cylinderOf, headOf, dividesByZero, isBeyondHeads, isBeyondCylinders, hasTooManyCylinders, hasTooManyHeads, exceeds, Physical, placed, translatedBy, translated}

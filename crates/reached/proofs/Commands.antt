@@ -4,12 +4,10 @@
 --   refused          where two tests do not both hold and the second does, the first does not
 use mathlib.Core.Path.{_≡_, refl, sym, _∙_}
 use mathlib.Core.Bool.{Bool, true, false, not, true≢false, false≢true}
-use mathlib.Core.List.{List, [], _∷_}
-use Prim.Native.Nat.{ℕ, zero, suc, _<_}
+use Prim.Native.Nat.{ℕ, _<_}
 use native.Mathlib.Omega.{arith}
 use lib.Dec.{eqb}
-use lib.ListN.{getD}
-use borrow.Author.Tests.{eqb-true, not-true}
+use borrow.Author.Tests.{eqb-true}
 use Rattle.chip.specs.Choice.{pick, both, either}
 use Rattle.chip.specs.Lines.{codeOf, ownIdentity}
 use Rattle.chip.specs.Fifo.{isEmpty}
@@ -20,18 +18,15 @@ use Rattle.chip.specs.SelectAndTransfer.{fromDisconnected, resumed}
 use Rattle.chip.specs.Commands.{table, entryOf, isTwo, isPlace, isReady, isValid, reset, aborted, disconnected, selecting, selectAndTransferBegun, wayOf, transferInfoBegun, carriedOut, accepted, isRefusedBusy, commanded}
 use Rattle.chip.specs.Connections.{isConnected, isDisconnected}
 use Rattle.chip.specs.declared.State.{State}
-use Rattle.chip.specs.declared.Entry.{Entry}
-use Rattle.chip.specs.declared.Place.{Place}
-use Rattle.chip.specs.declared.Place.the-variants.{Nowhere, Anywhere, WhenDisconnected, WhenConnected, WhenConnectedOrWaiting, WhenConnectedOrDisconnected}
 use Rattle.chip.specs.declared.Fifo.{Fifo}
 use Rattle.chip.specs.declared.Activity.{Activity}
 use Rattle.chip.specs.declared.Command.{Command}
-use Rattle.chip.specs.declared.Activity.the-variants.{Idle, Interrupt, Runs, Ends, ReadOut}
+use Rattle.chip.specs.declared.Activity.the-variants.{Idle}
 use Rattle.chip.specs.declared.Command.the-variants.{SelectWithAtn, SelectWithoutAtn, SelectAndTransferWithAtn, SelectAndTransferWithoutAtn}
 use Rattle.chip.specs.declared.Connection.{Connection}
 use Rattle.chip.specs.declared.Direction.{Direction}
 use Rattle.chip.specs.declared.Noted.{Noted}
-use Rattle.chip.proofs.Cases.{by-pick, by-case, both-first, both-second, either-first, either-second, either-last}
+use Rattle.chip.proofs.Cases.{by-pick, by-case, both-first, both-second, either-last}
 use Rattle.chip.specs.Interrupts.{isOutgoing}
 use Rattle.reached.specs.Sound.{Placed, unasked, told, apart, joined, unfixed, none, Shape, idle, selects, waits, selectsAndTransfers, transfersInfo, ending, readOut, SelectsAndTransfers, with-atn, without-atn, select-and-transfer, transfer-info, Selects, six, seven}
 use Rattle.chip.specs.Fifo.{Whole}
