@@ -68,7 +68,8 @@ test:
 
 # Tests of the compiled library: its boundary and the refusals there, the paper's sessions, two independent models, one in C
 # (bench/plain.c) and one in Rust (tests/model), the wrapper for Rust, and the installation.
-outside: build/boundary build/refusals build/sessions build/plain_sessions build/differential build/against_model build/checked_board build/first
+outside: build/boundary build/refusals build/sessions build/plain_sessions build/differential build/against_model build/checked_board build/first \
+		build/bare_drive
 	@build/boundary
 	@build/refusals
 	@build/plain_sessions
@@ -76,6 +77,7 @@ outside: build/boundary build/refusals build/sessions build/plain_sessions build
 	@build/differential $(SEED) $(CALLS)
 	@build/against_model $(SEED) $(CALLS)
 	@build/first
+	@build/bare_drive > build/bare_drive.out && diff build/bare_drive.out build/bare_drive.txt && echo "bare drive: as docs/BOARD.md says"
 	@build/checked_board > build/board.out && tail -n 2 build/board.out
 	@build/checked_board --driver linux > build/board-linux.out && tail -n 2 build/board-linux.out
 	@cd rust && $(LENT) $(CARGO) test -q --target-dir $(CARGO_OUT) > $(CURDIR)/build/wrapper.log 2>&1 || { cat $(CURDIR)/build/wrapper.log; exit 1; }
@@ -100,6 +102,12 @@ build/board: examples/board.c include/am33c93a.h $(NATIVE)
 build/first: README.md include/am33c93a.h $(NATIVE)
 	@sed -n '/^```c$$/,/^```$$/p' README.md | sed '1d;$$d' > build/first.c
 	@$(CC) $(CFLAGS) -o $@ build/first.c $(NATIVE)
+
+# The driver for a bare drive of docs/BOARD.md, and what that page says that it prints.
+build/bare_drive: docs/BOARD.md include/am33c93a.h $(NATIVE)
+	@sed -n '/^```c$$/,/^```$$/p' $< | sed '1d;$$d' > build/bare_drive.c
+	@sed -n '/^```text$$/,/^```$$/p' $< | sed '1d;$$d' > build/bare_drive.txt
+	@$(CC) $(CHECKED) -o $@ build/bare_drive.c $(NATIVE)
 
 build/checked_board: examples/board.c include/am33c93a.h $(NATIVE)
 	@$(CC) $(CHECKED) -o $@ $< $(NATIVE)
