@@ -219,26 +219,13 @@ module _ (m b : ℕ) (s : State) (h : Translates (register m b) s) where
   off-disk : after .status .code ≡ 0x45 → isOffDisk s ≡ true
   off-disk k = by-test (isOffDisk s) (λ e. e) (λ e. clash (ap (λ (n : ℕ). eqb n 0x45) k) (ap (λ (n : ℕ). eqb n 0x45) (code-located e)))
 
-  kept-located : Kept b s (translation (raise 0x15 (setCdb (placed place (cdbOf s)) (accepted b s))))
+  kept-raised : (k : ℕ) (l : List ℕ)
+      → ((a : ℕ) → (a < 0x0B) ⊎ (0x0E < a) → registerAt a (withCdb l (s .registers)) ≡ registerAt a (s .registers))
+      → Kept b s (translation (raise k (setCdb l (accepted b s))))
   unfolding raise outgoingDropped R.stepped R.pointerAfter accepted either pick
-  kept-located =
+  kept-raised k l others =
       record {
-        registers = placed-register place (s .registers);
-        pointer = at m b s h;
-        read-back = refl;
-        lci = refl;
-        pe = refl;
-        wire = refl;
-        single = refl;
-        direction = refl;
-        fifo = refl;
-      }
-
-  kept-missed : Kept b s (translation (raise 0x45 (accepted b s)))
-  unfolding raise outgoingDropped R.stepped R.pointerAfter accepted either pick
-  kept-missed =
-      record {
-        registers = λ a x. refl;
+        registers = others;
         pointer = at m b s h;
         read-back = refl;
         lci = refl;
@@ -250,7 +237,9 @@ module _ (m b : ℕ) (s : State) (h : Translates (register m b) s) where
       }
 
   kept-all : Kept b s after
-  kept-all = by-test (isOffDisk s) (λ e. rw (missed e) kept-missed) (λ e. rw (located e) kept-located)
+  unfolding accepted
+  kept-all = by-test (isOffDisk s) (λ e. rw (missed e) (kept-raised 0x45 (cdbOf s) (λ a x. refl)))
+      (λ e. rw (located e) (kept-raised 0x15 _ (placed-register place (s .registers))))
 
   answered-done : step (register m b) s .answer ≡ Done 0
   unfolding R.stepped

@@ -20,6 +20,7 @@ use Rattle.chip.specs.Translate.{Physical, geometryOf, addressOf}
 use Rattle.chip.specs.Calls.{Call, pointer, register, answer, step, run}
 use Rattle.chip.specs.declared.Registers.{Registers}
 use Rattle.chip.proofs.Computing.{everything}
+use Rattle.chip.proofs.Translate.{within}
 use Rattle.unread.specs.Status.{isCommand, isReset, raised}
 use Rattle.unread.specs.Codes.{CodesOnlyBy}
 use Rattle.unread.specs.Wrong.{instead}
@@ -27,6 +28,7 @@ use Rattle.unread.proofs.Choosing.{clash}
 use Rattle.unread.proofs.Pendings.{int-by}
 use Rattle.addresses.specs.Places.{Lies, PlacesRight, LeavesTheRest}
 use Rattle.addresses.specs.SamePlace.{SamePlaceSameAddress, SamePlaceOnAnyDisk}
+use Rattle.addresses.proofs.Places.{lies}
 use Rattle.addresses.specs.Wrong.{isTranslation, by, translatesBy, cuts, cutsHeads, skips, shrinks, believes, smears, strict, loose, givesUp, agrees, countsFromOne, turns, clobbers, lingers, reaches, tramples}
 
 -- the bytes written one after the other, from the register at the pointer up
@@ -122,15 +124,7 @@ lastOfCylinder = record { cylinder = 0; head = 3; sector = 14 }
 
 cylinder-lies : Lies (geometryOf withSpares) (addressOf withSpares) lastOfCylinder
 unfolding everything
-cylinder-lies =
-    record {
-      address = refl;
-      on-track = omega arith;
-      on-cylinder = omega arith;
-      head = omega arith;
-      cylinder = omega arith;
-      limits = λ e. record { cylinders = omega arith; heads = omega arith };
-    }
+cylinder-lies = lies (geometryOf withSpares) (addressOf withSpares) (within _ _ refl)
 
 pub shrinks-strays : PlacesRight shrinks → ⊥
 unfolding everything run shrinks translatesBy by instead isTranslation isCommand
@@ -150,15 +144,7 @@ lastOfFull = record { cylinder = 0; head = 3; sector = 16 }
 
 last-lies : Lies (geometryOf withoutSpares) (addressOf withoutSpares) lastOfFull
 unfolding everything
-last-lies =
-    record {
-      address = refl;
-      on-track = omega arith;
-      on-cylinder = omega arith;
-      head = omega arith;
-      cylinder = omega arith;
-      limits = λ e. clash e refl;
-    }
+last-lies = lies (geometryOf withoutSpares) (addressOf withoutSpares) (within _ _ refl)
 
 pub believes-strays : PlacesRight believes → ⊥
 unfolding everything run believes translatesBy by instead isTranslation isCommand
@@ -192,15 +178,7 @@ firstOfAll = record { cylinder = 0; head = 0; sector = 0 }
 
 first-lies : Lies (geometryOf largest) (addressOf largest) firstOfAll
 unfolding everything
-first-lies =
-    record {
-      address = refl;
-      on-track = omega arith;
-      on-cylinder = omega arith;
-      head = omega arith;
-      cylinder = omega arith;
-      limits = λ e. record { cylinders = omega arith; heads = omega arith };
-    }
+first-lies = lies (geometryOf largest) (addressOf largest) (within _ _ refl)
 
 pub strict-refuses : PlacesRight strict → ⊥
 unfolding everything run strict translatesBy by instead isTranslation isCommand

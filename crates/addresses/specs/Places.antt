@@ -1,6 +1,6 @@
 -- Where a logical address lies on a disk, and what Translate Address makes of it, of every state that carries it out. Paper 02, Req 01.
 --   Lies g n p            the address n lies at p on the disk g
---   Limits g              with spares at most 4096 cylinders and 15 heads
+--   Limits g              the disk has at most 4096 cylinders and 15 heads, which is asked of one with spares
 --   cdbOf                 registers 03 to 0Eh
 --   LiesIn s p            .. of the address and the disk in the registers of s
 --   Shows p t             0Bh to 0Eh of t show p
@@ -26,8 +26,8 @@ pub record Limits (g : Geometry) : Type 0 where
   pub cylinders : g .cylinders ≤ 4096
   pub heads : g .heads ≤ 15
 
--- the sectors of a cylinder are numbered through its tracks, the cylinders one after the other; on a cylinder with spares the last numbers
--- are not used
+-- the sectors of a cylinder are numbered through its tracks, the cylinders one after the other; where there are spares, the last sectors of a
+-- cylinder have no number
 pub record Lies (g : Geometry) (n : ℕ) (p : Physical) : Type 0 where
   pub address : n ≡ p .cylinder * g .perCylinder + p .head * g .sectors + p .sector
   pub on-track : p .sector < g .sectors
@@ -48,6 +48,7 @@ pub record Shows (p : Physical) (t : State) : Type 0 where
   pub cylinder-high : registerAt 0x0D (t .registers) ≡ p .cylinder / 256
   pub cylinder-low : registerAt 0x0E (t .registers) ≡ p .cylinder % 256
 
+-- the registers are twelve: so they are in every state that calls lead to (room reached)
 pub record PlacesRight (f : Call → State → Outcome) : Type 0 where
   -- an address that lies somewhere: 15h, and that place
   pub found : (m b : ℕ) (s : State) → Translates (register m b) s → length (cdbOf s) ≡ 12 → (p : Physical) → LiesIn s p

@@ -2,6 +2,7 @@
 --   reads f a s            what a driver reads of the register at a, in s: it sets the pointer and makes one access
 --   commanded f b s        the state after it has written b to the Command register
 --   Ready s                Disconnected, no command runs and no status is unread
+--   hasNoSparesRead f s    0Ch reads 0
 --   SameDisk f s t         03 to 06 read the same in both, 0Ch is zero in both or in neither, and where it is not 0Dh and 0Eh read the same
 --   addressRead f s        the address at 07 to 0Ah
 --   Translated f b s       b is 18h or 98h, and after it 17h reads 15h

@@ -125,7 +125,7 @@ module _ (s : State) (i : interrupted s ≡ false) where
         (λ n4. by-case Leads _ (λ e. inr (selects-goes r (rw e) v (only-apart (rw e) v)))
         (λ n6. by-case Leads _ (λ e. inr (selects-goes r (rw (n6, e)) v (only-apart (rw (n6, e)) v)))
         (λ n7. by-case Leads _ (λ e. transferring-goes _ (rw e) r v)
-        (λ n8. by-case Leads _ (λ e. transferring-goes _ (rw (n8, e)) r v) (λ n9. by-pick Leads _ (inl refl) (by-pick Leads _ (by-translation Leads _ λ k l h. inl refl) (inl refl))))))))))
+        (λ n8. by-case Leads _ (λ e. transferring-goes _ (rw (n8, e)) r v) (λ n9. by-pick Leads _ (inl refl) (by-pick Leads _ (by-translation Leads _ λ k l h. inl refl) (by-pick Leads _ (inl refl) (inl refl)))))))))))
 
     commanded-goes : Replies (commanded b s)
     unfolding commanded reset accepted isReset

@@ -234,7 +234,7 @@ module _ (s : State) (x : s .wire .connection ≡ Disconnected) where
       (by-pick Zero _ (λ e. refl)
       (by-pick Zero _ (λ e. refl)
       (by-pick Zero _ (transferring-zero _ b)
-      (by-pick Zero _ (transferring-zero _ b) (by-pick Zero _ not-so (by-pick Zero _ (by-translation Zero _ λ k l h. not-so) not-so)))))))))
+      (by-pick Zero _ (transferring-zero _ b) (by-pick Zero _ not-so (by-pick Zero _ (by-translation Zero _ λ k l h. not-so) (by-pick Zero _ not-so not-so))))))))))
 
   commanded-zero : (b : ℕ) → Zero (commanded b s .state)
   unfolding commanded accepted reset

@@ -2,7 +2,6 @@ pub mod Cases
 pub mod FifoLaws
 pub mod Numbers
 pub mod Activities
-pub mod Table
 pub mod Translate
 pub mod Sizes
 pub mod Computing

@@ -169,7 +169,7 @@ wayOf (Was p) = pick (comesIn p) In Out
 unfoldable pub transferInfoBegun : Bool → State → State
 transferInfoBegun single s = setActivity (Runs TransferInfo) (setDirection (wayOf (s .wire .seen .reported)) (loadedForTransferInfo single s))
 
--- a valid command, by its code; single is its bit 7
+-- a valid command, by its code; single is its bit 7. No other code is valid
 unfoldable pub carriedOut : ℕ → Bool → State → State
 carriedOut n single s =
     pick (eqb n 0x01) (aborted s)
@@ -181,7 +181,7 @@ carriedOut n single s =
     (pick (eqb n 0x08) (selectAndTransferBegun SelectAndTransferWithAtn s)
     (pick (eqb n 0x09) (selectAndTransferBegun SelectAndTransferWithoutAtn s)
     (pick (eqb n 0x0F) (setControl (withIdi (s .registers .setup .control)) s)
-    (pick (eqb n 0x18) (translated s) (transferInfoBegun single s))))))))))
+    (pick (eqb n 0x18) (translated s) (pick (eqb n 0x20) (transferInfoBegun single s) s))))))))))
 
 -- "A command not ignored clears LCI and PE", and 18h reads it back, all 8 bits
 unfoldable pub accepted : ℕ → State → State

@@ -14,7 +14,7 @@ use Rattle.chip.specs.Interrupts.{raise}
 unfoldable pub joined : ℕ → ℕ → ℕ
 joined high low = high * 256 + low
 
--- the disk: sectors on a track, heads, cylinders, sectors on a cylinder, and whether there are spares among them
+-- the disk: sectors on a track, heads, cylinders; whether sectors are kept as spares, and how many a cylinder has beside them
 pub record Geometry : Type 0 where
   pub sectors : ℕ
   pub heads : ℕ

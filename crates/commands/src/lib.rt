@@ -42,7 +42,10 @@ fn carried_out(n: u8, single: bool, s: State) -> State
     if n == 0x18 {
         return translate::translated(s);
     }
-    act::transfer_info_begun(single, s)
+    if n == 0x20 {
+        return act::transfer_info_begun(single, s);
+    }
+    s
 }
 
 // A write of b to the command register.

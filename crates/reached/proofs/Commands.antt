@@ -33,7 +33,6 @@ use Rattle.chip.specs.Fifo.{Whole}
 use Rattle.chip.proofs.FifoLaws.{keeps-bytes}
 use Rattle.chip.specs.Translate.{translated}
 use Rattle.chip.proofs.Translate.{by-translation}
-use Rattle.chip.proofs.Table.{isLikeInfo, as-info, narrow, unlisted}
 use Rattle.reached.proofs.Shapes.{Numbered, Good, so, Fine, being, clash, empty-way, raised, ended, selects-and-transfers-run, moves-run, selects-run, transfers-selects}
 
 -- ---- no command runs and nothing is pending
@@ -152,10 +151,9 @@ module _ (s : State) (n : Numbered s) (k : ℕ) (single : Bool) where
       → Whole q → Shape (s .transfer .single) (s .registers .count) x a d q atn ack w → isInterrupt x ≡ false → isPlace (entryOf k .place) a ≡ true
       → (isTwo (entryOf k .level) ≡ true → isRunning x ≡ false)
       → (eqb k 0x01 ≡ true → goesOn x ≡ true)
-      → eqb k 0x00 ≡ false
       → Good (carriedOut k single (being x a d q atn ack w s))
   unfolding carriedOut disconnected entryOf table isEmpty
-  carried-out {a = a} {q = q} {atn = atn} {ack = ack} {w = w} u g i l calm ready n0 =
+  carried-out {a = a} {q = q} {atn = atn} {ack = ack} {w = w} u g i l calm ready =
       by-case Good _
       (λ e. abort s n u g (ready e))
       λ n1.
@@ -171,11 +169,10 @@ module _ (s : State) (n : Numbered s) (k : ℕ) (single : Bool) where
       by-case Good _ (λ e. begin s n SelectAndTransferWithAtn with-atn w u (resting g i (calm (levelled k 0x08 e refl)))) λ n8.
       by-case Good _ (λ e. begin s n SelectAndTransferWithoutAtn without-atn w u (resting g i (calm (levelled k 0x09 e refl)))) λ n9.
       by-case Good _ (λ e. so _ n u g) λ n15.
-      by-case Good _ (λ e. translate s n w u (resting g i (calm (levelled k 0x18 e refl))))
-      λ n24.
-      let x : isLikeInfo (entryOf k) ≡ true = as-info k (unlisted k n0 n1 n2 n3 n4 n6 n7 n8 n9 n15 n24) in
-      inform s n single w u (resting g i (calm (both-first _ _ x)))
-      (narrow (entryOf k .place) a (both-second (isTwo (entryOf k .level)) _ x) l)
+      by-case Good _ (λ e. translate s n w u (resting g i (calm (levelled k 0x18 e refl)))) λ n24.
+      by-case Good _
+      (λ e. inform s n single w u (resting g i (calm (levelled k 0x20 e refl))) (placed k 0x20 a e l))
+      λ n32. so _ n u g
 
 module _ (b : ℕ) (s : State) (g : Good s) where
   abbrev code : ℕ
@@ -213,5 +210,5 @@ module _ (b : ℕ) (s : State) (g : Good s) where
       by-case Fine _ (λ e. so _ (g .numbers) (g .whole) (g .shape)) λ f.
       by-case Fine _
       (λ v.
-      carried-out (accepted b s) (g .numbers) code _ (g .whole) (g .shape) i (both-first _ _ v) (calm f) (ready v) n0)
+      carried-out (accepted b s) (g .numbers) code _ (g .whole) (g .shape) i (both-first _ _ v) (calm f) (ready v))
       (λ v. forty i f v)

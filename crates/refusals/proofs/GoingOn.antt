@@ -9,7 +9,7 @@ use Prim.Native.Nat.{ℕ, zero, suc}
 use lib.Dec.{eqb, leb}
 use lib.ListN.{getD}
 use borrow.Author.Tests.{eqb-true}
-use Rattle.chip.specs.Choice.{pick, both, either}
+use Rattle.chip.specs.Choice.{both, either}
 use Rattle.chip.specs.Answers.{done}
 use Rattle.chip.specs.Lines.{codeOf}
 use Rattle.chip.specs.Interrupts.{busy}
@@ -52,11 +52,6 @@ not-one c k n h e =
     let one : isLevelOne k ≡ true = rw (eqb-true c k e) at h in
     true≢false (sym one ∙ n)
 
-none-of : (c : ℕ) → isLevelOne c ≡ true → eqb c 0x00 ≡ false → eqb c 0x01 ≡ false → eqb c 0x02 ≡ false → eqb c 0x03 ≡ false
-    → eqb c 0x04 ≡ false → eqb c 0x0F ≡ false → ⊥
-unfolding isLevelOne either
-none-of c h n0 n1 n2 n3 n4 n15 = false≢true (rw (n0, n1, n2, n3, n4, n15) at h)
-
 -- ---- a command that is no transfer
 
 aborted-count : (s : State) → SameCount s (aborted s)
@@ -64,23 +59,20 @@ unfolding aborted
 aborted-count s =
     by-pick (SameCount s) _ (then (stands refl refl) (end-count _ _)) (then (stands refl refl) (raise-count _ _))
 
--- a choice where the second side may use that the test fails
-or-else : {s : State} (t : Bool) {a b : State} → SameCount s a → (t ≡ false → SameCount s b) → SameCount s (pick t a b)
-or-else {s} t x y = by-case (SameCount s) t (λ e. x) y
-
-carried-out : (c : ℕ) (single : Bool) (s : State) → isLevelOne c ≡ true → eqb c 0x00 ≡ false → SameCount s (carriedOut c single s)
+carried-out : (c : ℕ) (single : Bool) (s : State) → isLevelOne c ≡ true → SameCount s (carriedOut c single s)
 unfolding carriedOut disconnected selecting isLevelOne either
-carried-out c single s h n0 =
-    or-else _ (aborted-count s) λ n1.
-    or-else _ (stands refl refl) λ n2.
-    or-else _ (stands refl refl) λ n3.
-    or-else _ (stands refl refl) λ n4.
-    by-pick (SameCount s) _ (stands refl refl)
+carried-out c single s h =
+    by-pick (SameCount s) _ (aborted-count s)
+    (by-pick (SameCount s) _ (stands refl refl)
+    (by-pick (SameCount s) _ (stands refl refl)
+    (by-pick (SameCount s) _ (stands refl refl)
+    (by-pick (SameCount s) _ (stands refl refl)
     (by-pick (SameCount s) _ (stands refl refl)
     (by-case (SameCount s) _ (λ e. absurd (not-one c 0x08 refl h e)) λ n8.
     by-case (SameCount s) _ (λ e. absurd (not-one c 0x09 refl h e)) λ n9.
-    or-else _ (stands refl refl) λ n15.
-    by-case (SameCount s) _ (λ e. absurd (not-one c 0x18 refl h e)) λ n24. absurd (none-of c h n0 n1 n2 n3 n4 n15)))
+    by-pick (SameCount s) _ (stands refl refl)
+    (by-case (SameCount s) _ (λ e. absurd (not-one c 0x18 refl h e)) λ n24.
+    by-case (SameCount s) _ (λ e. absurd (not-one c 0x20 refl h e)) λ n32. stands refl refl)))))))
 
 pub record Goes (s : State) (q : Reply) : Type 0 where
   pub so : runningNumber (q .state .activity) ≡ runningNumber (s .activity) → SameCount s (q .state)
@@ -115,7 +107,7 @@ module _ (s : State) (runs : isRunning (s .activity) ≡ true) where
       by-pick (Goes s) _ (kept (stands refl refl))
       (by-case (Goes s) _ (λ e. kept (stands refl refl)) λ n.
       by-pick (Goes s) _
-      (kept (then (accepted-count b) (carried-out (codeOf b) _ _ (level-one _ (level _ n)) n0)))
+      (kept (then (accepted-count b) (carried-out (codeOf b) _ _ (level-one _ (level _ n)))))
       (let h = accepted-count b in kept (stands (h .shown) (h .beside))))
 
   -- with BSY only 18h and 19h are reachable

@@ -42,19 +42,18 @@ use Rattle.chip.specs.declared.Activity.the-variants as A
 use Rattle.chip.specs.declared.Command.{Command}
 use Rattle.chip.specs.declared.Entry.{Entry}
 use Rattle.chip.specs.declared.Connection.{Connection}
-use Rattle.chip.specs.declared.Connection.the-variants.{Disconnected, Selecting, Waiting, Connected}
+use Rattle.chip.specs.declared.Connection.the-variants.{Disconnected, Selecting, Waiting}
 use Rattle.chip.specs.declared.Direction.{Direction}
 use Rattle.chip.specs.declared.Direction.the-variants.{Unfixed, In, Out}
 use Rattle.chip.specs.declared.Reply.{Reply}
 use Rattle.unread.specs.Status.{pendingIn, isCommand, isReset, isSelectCode, isSelection, isDisconnect, isAnswer, readsAt}
 use Rattle.unread.specs.Because as B
 use Rattle.unread.specs.Because.{Quiet, ReadsLast}
-use Rattle.chip.proofs.Cases.{by-pick, by-case, by-test, both-first, both-second, either-first, either-rest, either-second}
-use Rattle.unread.proofs.Choosing.{clash, not-first, only-first, one-or, one-of}
+use Rattle.chip.proofs.Cases.{by-pick, by-case, by-test, both-first, both-second, either-second}
+use Rattle.unread.proofs.Choosing.{clash, not-first, one-or, one-of}
 use Rattle.unread.proofs.Telling.{connected-apart, Summary, summary, Tells, ToldState, so, ToldReply, disconnects, has-read, silent, moves, selects, settles, raises, reads, resets, gone, there, brought}
 use Rattle.unread.proofs.Pendings.{isEnd, quiet-of}
 use Rattle.chip.proofs.Activities.{ending-runs}
-use Rattle.chip.proofs.Table.{isListed, unlisted, as-info}
 use Rattle.chip.proofs.Numbers.{is-selecting, is-connected, is-disconnected}
 use Rattle.chip.proofs.FifoLaws.{some-waits, none-waits, pop-less, waits-some}
 
@@ -133,10 +132,10 @@ valid-apart (suc (suc k)) s n o v = by-connection (s .wire .connection) (both-fi
         by-test (isSelecting x)
         (λ y. clash (rw (is-selecting x y) at e) (not-true _ (each-barred (drop 2 table) refl k))) (λ n. n)
 
--- Level II commands that have no line of their own, Transfer Info among them: nothing runs either
-other-idle : (k : ℕ) (s : State) → isListed k ≡ false → isRefusedBusy k s ≡ false → busy s ≡ false
+-- nor does anything run where any command of Level II is not refused so
+two-idle : (k j : ℕ) (s : State) → eqb k j ≡ true → isTwo (entryOf j .level) ≡ true → isRefusedBusy k s ≡ false → busy s ≡ false
 unfolding isRefusedBusy either
-other-idle k s l r = not-first (busy s) _ r (rw (both-first (isTwo (entryOf k .level)) _ (as-info k l)))
+two-idle k j s e t r = not-first (busy s) _ r (rw (eqb-true k j e, t))
 
 -- a valid Abort: a command runs, and no ending is under way
 pub abort-goes : (k : ℕ) (s : State) → eqb k 0x01 ≡ true → isValid k s ≡ true → goesOn (s .activity) ≡ true
@@ -185,10 +184,10 @@ module _
     -- a valid Translate Address that no running command refuses
     translates : eqb (codeOf b) 0x18 ≡ true → isRefusedBusy (codeOf b) s ≡ false → isValid (codeOf b) s ≡ true
         → B.Translates (register m b) s
-    unfolding isValid isRefusedBusy entryOf table either
+    unfolding isValid entryOf table
     translates e r v =
         let k : codeOf b ≡ 0x18 = eqb-true _ _ e in
-        let idle : busy s ≡ false = not-first (busy s) true (rw k at r) refl in
+        let idle : busy s ≡ false = two-idle (codeOf b) 0x18 s e refl r in
         record {
           command = is-command 0x18 e;
           quiet = quiet-of s i (not-busy-ends s idle);
@@ -221,7 +220,7 @@ module _
 
     carried-tells : (single : Bool) → eqb (codeOf b) 0x00 ≡ false → isRefusedBusy (codeOf b) s ≡ false → isValid (codeOf b) s ≡ true
         → Told (carriedOut (codeOf b) single (accepted b s))
-    unfolding carriedOut accepted disconnected selecting transferInfoBegun loadedForTransferInfo isSelectCode either
+    unfolding carriedOut entryOf table accepted disconnected selecting transferInfoBegun loadedForTransferInfo isSelectCode either
     carried-tells single n0 r v =
         by-case Told _ (λ e. aborted-tells e v)
         (λ n1. let z : isSelecting (s .wire .connection) ≡ false = valid-apart (codeOf b) s n0 n1 v in
@@ -236,8 +235,7 @@ module _
         (λ n8. by-case Told _ (λ e. transferring-tells _ (rw (n8, e)) r v)
         (λ n9. by-case Told _ (λ e. so (moves z refl))
         (λ n15. by-case Told _ (λ e. translating-tells e r v)
-        (λ n24. let idle : busy s ≡ false = other-idle (codeOf b) s (unlisted (codeOf b) n0 n1 n2 n3 n4 n6 n7 n8 n9 n15 n24) r in
-        so (moves z (sym (quiet-of s i (not-busy-ends s idle))))))))))))))
+        (λ n24. by-case Told _ (λ e. so (moves z (sym (quiet-of s i (not-busy-ends s (two-idle (codeOf b) 0x20 s e refl r)))))) (λ n32. so (moves z refl))))))))))))
 
   is-reset : eqb (codeOf b) 0x00 ≡ true → isReset (register m b) s ≡ true
   unfolding isReset

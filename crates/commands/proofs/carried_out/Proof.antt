@@ -85,7 +85,11 @@ transfer-info-begun-requires c κs = search needs
 
 returns-11 : tie.Need-returns-11
 unfolding carriedOut pick
-returns-11 c = simp (ne-eqb _ _ (c .before .before .before .before .before .before .before .before .before .before .if1 .left), ne-eqb _ _ (c .before .before .before .before .before .before .before .before .before .if2 .left), ne-eqb _ _ (c .before .before .before .before .before .before .before .before .if3 .left), ne-eqb _ _ (c .before .before .before .before .before .before .before .if4 .left), ne-eqb _ _ (c .before .before .before .before .before .before .if5 .left), ne-eqb _ _ (c .before .before .before .before .before .if6 .left), ne-eqb _ _ (c .before .before .before .before .if7 .left), ne-eqb _ _ (c .before .before .before .if8 .left), ne-eqb _ _ (c .before .before .if9 .left), ne-eqb _ _ (c .before .if10 .left), c .transfer-info-begun .ensures)
+returns-11 c = simp (ne-eqb _ _ (c .before .before .before .before .before .before .before .before .before .before .before .if1 .left), ne-eqb _ _ (c .before .before .before .before .before .before .before .before .before .before .if2 .left), ne-eqb _ _ (c .before .before .before .before .before .before .before .before .before .if3 .left), ne-eqb _ _ (c .before .before .before .before .before .before .before .before .if4 .left), ne-eqb _ _ (c .before .before .before .before .before .before .before .if5 .left), ne-eqb _ _ (c .before .before .before .before .before .before .if6 .left), ne-eqb _ _ (c .before .before .before .before .before .if7 .left), ne-eqb _ _ (c .before .before .before .before .if8 .left), ne-eqb _ _ (c .before .before .before .if9 .left), ne-eqb _ _ (c .before .before .if10 .left), eq-eqb _ _ (c .before .if11 .taken), c .transfer-info-begun .ensures)
+
+returns-12 : tie.Need-returns-12
+unfolding carriedOut pick
+returns-12 c = simp (ne-eqb _ _ (c .before .before .before .before .before .before .before .before .before .before .if1 .left), ne-eqb _ _ (c .before .before .before .before .before .before .before .before .before .if2 .left), ne-eqb _ _ (c .before .before .before .before .before .before .before .before .if3 .left), ne-eqb _ _ (c .before .before .before .before .before .before .before .if4 .left), ne-eqb _ _ (c .before .before .before .before .before .before .if5 .left), ne-eqb _ _ (c .before .before .before .before .before .if6 .left), ne-eqb _ _ (c .before .before .before .before .if7 .left), ne-eqb _ _ (c .before .before .before .if8 .left), ne-eqb _ _ (c .before .before .if9 .left), ne-eqb _ _ (c .before .if10 .left), ne-eqb _ _ (c .if11 .left))
 
 pub carried-out-spec : {M : Type 1} → statement M
 carried-out-spec =
@@ -113,4 +117,5 @@ carried-out-spec =
     translated-requires
     returns-10
     transfer-info-begun-requires
-    returns-11)
+    returns-11
+    returns-12)
