@@ -91,12 +91,10 @@ enum {
     AM33C93A_SOURCE_ID = 0x16,      /* ER (bit 7); SIV (bit 3) and the identity that reselected us (bits 2 to 0) */
     AM33C93A_SCSI_STATUS = 0x17,    /* the last code; a read clears INT */
     AM33C93A_COMMAND = 0x18,        /* a write is a command */
-    AM33C93A_DATA = 0x19            /* the FIFO's end for the host */
-};
+    AM33C93A_DATA = 0x19,           /* the FIFO's end for the host */
 
-/* The registers of Translate Address, where the command bytes stand otherwise; numbers of two and four bytes high byte first. 15h writes the
- * place over 0Ch to 0Eh, so they are written anew before the next address. */
-enum {
+    /* Of Translate Address, where the command bytes stand otherwise; numbers of two and four bytes have their high byte first. 15h writes
+     * the place over 0Ch to 0Eh, so write them anew before the next address. */
     AM33C93A_TOTAL_SECTORS = 0x03,   /* on a track */
     AM33C93A_TOTAL_HEADS = 0x04,
     AM33C93A_TOTAL_CYLINDERS = 0x05, /* two bytes */

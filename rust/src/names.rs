@@ -47,8 +47,8 @@ pub mod register {
     /// The FIFO's end for the host.
     pub const DATA: u8 = 0x19;
 
-    // The registers of Translate Address, where the command bytes stand otherwise; numbers of two and four bytes high byte first. 15h
-    // writes the place over 0Ch to 0Eh, so they are written anew before the next address.
+    // Of Translate Address, where the command bytes stand otherwise; numbers of two and four bytes have their high byte first. 15h writes
+    // the place over 0Ch to 0Eh, so write them anew before the next address.
 
     /// On a track.
     pub const TOTAL_SECTORS: u8 = 0x03;

@@ -31,9 +31,9 @@ fn listed(text: &str, start: &str) -> Vec<(String, u32)> {
 fn the_header_and_the_wrapper_say_the_same() {
     for (comment, prefix, module, length) in [
         ("/* Auxiliary status. */", "AM33C93A_AUX_", "auxiliary", 6),
-        ("/* Register addresses. */", "AM33C93A_", "register", 15),
-        ("/* Commands;", "AM33C93A_", "command", 12),
-        ("/* Codes of SCSI status.", "AM33C93A_CODE_", "code", 16),
+        ("/* Register addresses. */", "AM33C93A_", "register", 22),
+        ("/* Commands;", "AM33C93A_", "command", 13),
+        ("/* Codes of SCSI status.", "AM33C93A_CODE_", "code", 18),
         ("/* The value of am33c93a_lines.", "AM33C93A_LINES_", "line", 7),
     ] {
         let header = listed(between(HEADER, comment, "};"), prefix);
