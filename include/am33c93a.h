@@ -100,11 +100,11 @@ enum {
     AM33C93A_TOTAL_CYLINDERS = 0x05, /* two bytes */
     AM33C93A_LOGICAL_ADDRESS = 0x07, /* four bytes */
     AM33C93A_SECTOR_NUMBER = 0x0b,   /* of the place, from 0 */
-    AM33C93A_HEAD_NUMBER = 0x0c,     /* of the place; before: 0 if no sectors are spares */
-    AM33C93A_CYLINDER_NUMBER = 0x0d  /* two bytes, of the place; before, with spares: the sectors on a cylinder beside them */
+    AM33C93A_HEAD_NUMBER = 0x0c,     /* of the place; before: the spare sectors on a cylinder, 0 if there are none */
+    AM33C93A_CYLINDER_NUMBER = 0x0d  /* two bytes, of the place; before, with spares: the sectors on a cylinder, spares not counted */
 };
 
-/* Commands; bit 7 asks 20h for a single byte, and is nothing to the others. */
+/* Commands; bit 7 asks 20h for a single byte, and means nothing to the others. */
 enum {
     AM33C93A_RESET = 0x00,                   /* always taken */
     AM33C93A_ABORT = 0x01,                   /* ends the running command */
@@ -148,7 +148,7 @@ enum {
     AM33C93A_CODE_GONE = 0x41,              /* the Target left in the middle */
     AM33C93A_CODE_TIMEOUT = 0x42,           /* nobody answered the selection in time */
     AM33C93A_CODE_PARITY = 0x43,            /* bad parity, with HSP; ACK is held */
-    AM33C93A_CODE_OFF_DISK = 0x45,          /* the address has no place on the disk; no register is written */
+    AM33C93A_CODE_OFF_DISK = 0x45,          /* the address has no place on the disk, or the disk with spares is too large; no register is written */
     AM33C93A_CODE_UNEXPECTED_PHASE = 0x48,  /* this phase came unexpected */
     AM33C93A_CODE_RESELECTED = 0x80,        /* a Target reselected us */
     AM33C93A_CODE_DISCONNECTED = 0x85,      /* the Target freed the bus */

@@ -59,13 +59,13 @@ pub mod register {
     pub const LOGICAL_ADDRESS: u8 = 0x07;
     /// Of the place, from 0.
     pub const SECTOR_NUMBER: u8 = 0x0b;
-    /// Of the place; before: 0 if no sectors are spares.
+    /// Of the place; before: the spare sectors on a cylinder, 0 if there are none.
     pub const HEAD_NUMBER: u8 = 0x0c;
-    /// Two bytes, of the place; before, with spares: the sectors on a cylinder beside them.
+    /// Two bytes, of the place; before, with spares: the sectors on a cylinder, spares not counted.
     pub const CYLINDER_NUMBER: u8 = 0x0d;
 }
 
-/// Commands; bit 7 asks Transfer Info for a single byte, and is nothing to the others.
+/// Commands; bit 7 asks Transfer Info for a single byte, and means nothing to the others.
 pub mod command {
     /// Always taken.
     pub const RESET: u8 = 0x00;
@@ -123,7 +123,7 @@ pub mod code {
     pub const TIMEOUT: u8 = 0x42;
     /// Bad parity, with HSP; ACK is held.
     pub const PARITY: u8 = 0x43;
-    /// The address has no place on the disk; no register is written.
+    /// The address has no place on the disk, or the disk with spares is too large; no register is written.
     pub const OFF_DISK: u8 = 0x45;
     /// This phase came unexpected.
     pub const UNEXPECTED_PHASE: u8 = 0x48;

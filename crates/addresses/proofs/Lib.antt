@@ -1,3 +1,5 @@
 pub mod Places
+pub mod Stays
 pub mod SamePlace
+pub mod Frame
 pub mod Refuted

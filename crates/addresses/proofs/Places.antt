@@ -101,7 +101,7 @@ module _ (m b : ℕ) (s : State) (h : Translates (register m b) s) where
       ∙ ap (λ (r : Reply). plain (R.stepped 0x18 r)) (translate-taken (register m b) s (h .quiet) (h .idle) (h .apart) b (i .0))
 
   -- 18h is the address that is accessed, and there the pointer stays
-  at : 0x18 ≡ s .status .pointer
+  pub at : 0x18 ≡ s .status .pointer
   unfolding isCommand
   at =
       let f = both-second (isGood (register m b)) _ (h .command) in

@@ -1,16 +1,21 @@
--- Two addresses that both give 15h with the same place, on the same disk, are equal.
---   reads-is reads-code   what a driver reads where no command runs
---   Located located       after 15h: the place where the address lies, as a driver reads it
---   same-place-same-address   the law of specs/SamePlace.antt
+-- Two addresses for which a driver reads 15h and the same place, on the same disk, are equal.
+--   write-one write-all      registers 03 to 0Eh hold what is written there, one after the other
+--   asked-is                 the state in which the driver looks
+--   looked                   what it then reads
+--   same-geometry            two loads that say the same disk
+--   same-place-same-address  the law of specs/SamePlace.antt
 use mathlib.Core.Path.{_≡_, refl, sym, ap, ap₂, _∙_}
 use mathlib.Core.Bool.{Bool, true, false, not}
-use Prim.Native.Nat.{ℕ, _+_, _*_, _/_, _%_}
+use mathlib.Core.List.{List, [], _∷_}
+use Prim.Native.Nat.{ℕ, suc, _+_, _-_, _*_, _/_, _%_, _<_, _≤_}
 use native.Mathlib.Nat.{div-add-mod'}
-use lib.Dec.{eqb, leb}
-use lib.ListN.{length}
-use borrow.Author.Tests.{eq-eqb, lt-ltb}
+use native.Mathlib.Omega.{arith}
+use lib.Dec.{eqb}
+use lib.ListN.{length, getD, set}
+use borrow.Author.Tests.{eq-eqb, ne-eqb, lt-ltb, lt-leb}
 use Rattle.chip.specs.Choice.{pick, both, either}
-use Rattle.chip.specs.State.{fresh, setPointer}
+use Rattle.chip.specs.State.{setPointer, setCdb, setActivity}
+use Rattle.chip.specs.Ok.{Bytes}
 use Rattle.chip.specs.Answers.{value}
 use Rattle.chip.specs.Interrupts.{busy}
 use Rattle.chip.specs.Activity.{isRunning}
@@ -21,160 +26,163 @@ use Rattle.chip.specs.Calls.{Outcome, pointer, register, isGood, carried, step,
 use Rattle.chip.specs.declared.State.{State}
 use Rattle.chip.specs.declared.Reply.{Reply}
 use Rattle.chip.specs.declared.Answer.{Answer}
-use Rattle.chip.specs.declared.Answer.the-variants.{Done}
+use Rattle.chip.specs.declared.Answer.the-variants.{Done, Held}
+use Rattle.chip.specs.declared.Activity.the-variants.{Interrupt}
 use Rattle.chip.proofs.Cases.{by-test, taken, passed-over}
+use Rattle.chip.proofs.Computing.{everything}
+use Rattle.chip.proofs.ImageFields.{whole}
 use Rattle.reached.proofs.Laws.{reached}
 use Rattle.unread.specs.Status.{isCommand}
 use Rattle.unread.specs.Because.{Translates}
 use Rattle.unread.proofs.Told.{good-step, access-step}
-use Rattle.addresses.specs.Places.{cdbOf, LiesIn}
-use Rattle.addresses.specs.SamePlace.{reads, commanded, Ready, hasNoSparesRead, SameDisk, addressRead, Translated, SamePlace, SamePlaceSameAddress}
+use Rattle.addresses.specs.Places.{Lies, cdbOf}
+use Rattle.addresses.specs.SamePlace.{Ready, Loads, IsTranslate, SameDisk, written, asked, looks, told, Place, Finds, SamePlaceSameAddress}
 use Rattle.addresses.proofs.Places.{places-right, leaves-the-rest}
 
--- ---- reads
+-- ---- what is written
 
-module _ (s : State) (free : busy s ≡ false) where
-  seen : (a : ℕ) → leb 0x1A a ≡ false → R.isBlind false a (setPointer a s) ≡ false
-  unfolding R.isBlind busy both either
-  seen a e = rw (e, free)
+-- the bytes x in l, from the place i on
+unfoldable over : List ℕ → ℕ → List ℕ → List ℕ
+over l i [] = l
+over l i (b ∷ x) = over (set l i b) (suc i) x
 
-  access : (a : ℕ) → isGood (pointer 1 a) ≡ true → leb 0x1A a ≡ false → reads step a s ≡ R.readAt a (setPointer a s) .answer
-  unfolding carried R.pointerSet R.stepped R.accessedAt pick isGood both
-  access a g e =
-      ap (λ (o : Outcome). step (register 0 0) (o .state) .answer) (good-step (pointer 1 a) s g)
-      ∙ ap (λ (o : Outcome). o .answer) (access-step 0 0 (setPointer a s) a false refl refl (eq-eqb a a refl))
-      ∙ ap (λ (r : Reply). r .answer) (passed-over _ _ (seen a e))
+module _ (b a : ℕ) (s : State) (byte : b < 256) (from : 3 ≤ a) (to : a < 15) (at : s .status .pointer ≡ a) (free : busy s ≡ false) where
+  good : isGood (register 1 b) ≡ true
+  unfolding isGood both
+  good = lt-ltb b 256 byte
 
-  -- a register that stores a byte, at an address that is given
-  register-is : (a : ℕ) → isGood (pointer 1 a) ≡ true → leb 0x1A a ≡ false → eqb a 0x17 ≡ false → eqb a 0x18 ≡ false → eqb a 0x19 ≡ false
-      → reads step a s ≡ Done (registerAt a (s .registers))
-  unfolding R.readAt
-  register-is a g e n m o =
-      access a g e ∙ ap (λ (r : Reply). r .answer) (passed-over _ _ n ∙ passed-over _ _ m ∙ passed-over _ _ o)
+  reachable : R.isBlind true a s ≡ false
+  unfolding R.isBlind both either
+  reachable = rw (lt-leb 0x1A a (omega (arith, to)), ne-eqb a 0x17 (λ e. omega (arith, to)), free)
 
-  code-is : reads step 0x17 s ≡ Done (s .status .code)
-  unfolding R.readAt isGood both
-  code-is = access 0x17 refl refl ∙ ap (λ (r : Reply). r .answer) (taken _ _ refl)
+  -- the address is one of 03 to 0Eh
+  stored-is : R.storedIn a b (s .registers) ≡ setCdb (set (cdbOf s) (a - 3) b) s .registers
+  unfolding R.storedIn
+  stored-is =
+      passed-over _ _ (ne-eqb a 0x00 (λ e. omega (arith, from)))
+      ∙ passed-over _ _ (ne-eqb a 0x01 (λ e. omega (arith, from)))
+      ∙ passed-over _ _ (ne-eqb a 0x02 (λ e. omega (arith, from)))
+      ∙ taken _ _ (lt-ltb a 0x0F to)
 
--- ---- the disk and the address
+  pointer-is : R.pointerAfter a ≡ suc a
+  unfolding R.pointerAfter either pick
+  pointer-is =
+      rw (ne-eqb a 0x18 (λ e. omega (arith, to)), ne-eqb a 0x19 (λ e. omega (arith, to)), ne-eqb a 0x1F (λ e. omega (arith, to)))
+      (omega (arith, to))
 
-abbrev hasNone : State → Bool
-hasNone s = eqb (registerAt 0x0C (s .registers)) 0
+  reply-is : R.accessedAt a true b s .state ≡ setCdb (set (cdbOf s) (a - 3) b) s
+  unfolding R.accessedAt R.writtenAt R.stored pick
+  reply-is =
+      ap (λ (r : Reply). r .state)
+      (passed-over _ _ reachable
+      ∙ passed-over _ _ (ne-eqb a 0x18 (λ e. omega (arith, to)))
+      ∙ passed-over _ _ (ne-eqb a 0x19 (λ e. omega (arith, to))))
+      ∙ rw stored-is refl
 
--- the same in the registers themselves
-record SameRegisters (s t : State) : Type 0 where
-  pub sectors : registerAt 0x03 (s .registers) ≡ registerAt 0x03 (t .registers)
-  pub heads : registerAt 0x04 (s .registers) ≡ registerAt 0x04 (t .registers)
-  pub cylinders-high : registerAt 0x05 (s .registers) ≡ registerAt 0x05 (t .registers)
-  pub cylinders-low : registerAt 0x06 (s .registers) ≡ registerAt 0x06 (t .registers)
-  pub spares : hasNone s ≡ hasNone t
-  pub per-cylinder-high : hasNone s ≡ false → registerAt 0x0D (s .registers) ≡ registerAt 0x0D (t .registers)
-  pub per-cylinder-low : hasNone s ≡ false → registerAt 0x0E (s .registers) ≡ registerAt 0x0E (t .registers)
+  write-one : step (register 1 b) s .state ≡ setPointer (suc a) (setCdb (set (cdbOf s) (a - 3) b) s)
+  unfolding R.stepped
+  write-one =
+      ap (λ (o : Outcome). o .state) (access-step 1 b s a true good refl (eq-eqb _ _ at))
+      ∙ ap₂ (λ (p : ℕ) (t : State). setPointer p t) pointer-is reply-is
 
-module _ (s t : State) (h : SameRegisters s t) where
-  same-spares : hasSparesIn (cdbOf s) ≡ hasSparesIn (cdbOf t)
-  unfolding hasSparesIn registerAt pick
-  same-spares = ap not (h .spares)
+write-all : (x : List ℕ) (a : ℕ) (s : State) → Bytes x → 3 ≤ a → a + length x ≤ 15 → s .status .pointer ≡ a → busy s ≡ false
+    → run step (written x) s ≡ setPointer (a + length x) (setCdb (over (cdbOf s) (a - 3) x) s)
+unfolding run busy over
+write-all [] a s h from to at free = rw (at-end a) (rw (sym at) refl)
+  where
+    at-end : (n : ℕ) → n + 0 ≡ n
+    at-end n = omega arith
+write-all (b ∷ x) a s h from to at free =
+    ap (run step (written x)) (write-one b a s (h 0) from (omega (arith, to)) at free)
+    ∙ write-all x (suc a) (setPointer (suc a) (setCdb (set (cdbOf s) (a - 3) b) s)) (λ k. h (suc k)) (omega (arith, from)) (omega (arith, to)) refl free
+    ∙ ap₂ (λ (p i : ℕ). setPointer p (setCdb (over (set (cdbOf s) (a - 3) b) i x) s)) (omega arith) (omega (arith, from))
 
-  spares-none : hasNone s ≡ true → hasSparesIn (cdbOf s) ≡ false
-  unfolding hasSparesIn registerAt pick
-  spares-none e = ap not e
+-- twelve bytes over twelve
+over-all : (l x : List ℕ) → length l ≡ 12 → length x ≡ 12 → over l 0 x ≡ x
+unfolding over
+over-all l x h k = ap₂ (λ (m y : List ℕ). over m 0 y) (sym (whole l h)) (sym (whole x k)) ∙ whole x k
 
-  spares-some : hasNone s ≡ false → hasSparesIn (cdbOf s) ≡ true
-  unfolding hasSparesIn registerAt pick
-  spares-some e = ap not e
+-- ---- one driver
 
-  same-per : perCylinderIn (cdbOf s) ≡ perCylinderIn (cdbOf t)
-  unfolding perCylinderIn registerAt pick
-  same-per =
-      by-test (hasNone s)
-      (λ e.
-      passed-over _ _ (spares-none e)
-      ∙ ap₂ (λ (x y : ℕ). x * y) (h .sectors) (h .heads)
-      ∙ sym (passed-over _ _ (sym same-spares ∙ spares-none e)))
-      (λ e.
-      taken _ _ (spares-some e)
-      ∙ ap₂ joined (h .per-cylinder-high e) (h .per-cylinder-low e)
-      ∙ sym (taken _ _ (sym same-spares ∙ spares-some e)))
+module _ (s : State) (r : Ready s) (long : length (cdbOf s) ≡ 12) (x : List ℕ) (h : Loads x) where
+  -- the registers loaded, the pointer at 18h
+  abbrev loaded : State
+  loaded = setPointer 0x18 (setCdb x s)
 
-  same-geometry : geometryOf (cdbOf s) ≡ geometryOf (cdbOf t)
-  unfolding registerAt pick
-  same-geometry = rw (h .sectors, h .heads, h .cylinders-high, h .cylinders-low, same-per, same-spares) refl
+  pointed : (a : ℕ) (t : State) → isGood (pointer 1 a) ≡ true → step (pointer 1 a) t .state ≡ setPointer a t
+  unfolding carried R.pointerSet pick
+  pointed a t g = ap (λ (o : Outcome). o .state) (good-step (pointer 1 a) t g)
 
--- ---- one controller
-
--- the place after 15h, as a driver reads it
-record Located (b : ℕ) (s : State) : Type 0 where
-  pub place : Physical
-  pub lies : LiesIn s place
-  pub sector : reads step 0x0B (commanded step b s) ≡ Done (place .sector)
-  pub head : reads step 0x0C (commanded step b s) ≡ Done (place .head)
-  pub cylinder-high : reads step 0x0D (commanded step b s) ≡ Done (place .cylinder / 256)
-  pub cylinder-low : reads step 0x0E (commanded step b s) ≡ Done (place .cylinder % 256)
-
--- two reads that give the same give the same number
-both-read : {a b : Answer} {x y : ℕ} → a ≡ b → a ≡ Done x → b ≡ Done y → x ≡ y
-both-read e f g = ap value (sym f ∙ e ∙ g)
-
-module _ (s : State) (r : Ready s) where
   free : busy s ≡ false
   unfolding busy
   free = ap isRunning (r .idle)
 
-  address-is : addressRead step s ≡ addressOf (cdbOf s)
-  unfolding addressOf registerAt pick isGood both
-  address-is =
-      ap₂ joined
-      (ap₂ joined
-      (ap₂ joined (ap value (register-is s free 0x07 refl refl refl refl refl)) (ap value (register-is s free 0x08 refl refl refl refl refl)))
-      (ap value (register-is s free 0x09 refl refl refl refl refl)))
-      (ap value (register-is s free 0x0A refl refl refl refl refl))
+  loads-is : step (pointer 1 0x18) (run step (written x) (step (pointer 1 0x03) s .state)) .state ≡ loaded
+  unfolding isGood both busy
+  loads-is =
+      ap (λ (t : State). step (pointer 1 0x18) (run step (written x) t) .state) (pointed 0x03 s refl)
+      ∙ ap (λ (t : State). step (pointer 1 0x18) t .state)
+      (write-all x 3 (setPointer 3 s) (h .bytes) (omega arith) (omega (arith, h .long)) refl free)
+      ∙ pointed 0x18 _ refl
+      ∙ ap (λ (l : List ℕ). setPointer 0x18 (setCdb l s)) (over-all (cdbOf s) x long (h .long))
 
-  module _ (b : ℕ) (h : Translated step b s) where
-    -- the command is written at 18h
-    translates : Translates (register 1 b) (setPointer 0x18 s)
+  module _ (b : ℕ) (c : IsTranslate b) where
+    translates : Translates (register 1 b) loaded
     unfolding isCommand isGood both
     translates =
         record {
-          command = rw (lt-ltb _ _ (h .byte), eq-eqb _ _ (h .command));
+          command = rw (lt-ltb _ _ (c .byte), eq-eqb _ _ (c .code));
           quiet = rw (r .idle) refl;
           idle = ap isRunning (r .idle);
           apart = r .apart;
         }
 
-    leads : commanded step b s ≡ step (register 1 b) (setPointer 0x18 s) .state
-    unfolding carried R.pointerSet pick isGood both
-    leads = ap (λ (o : Outcome). step (register 1 b) (o .state) .state) (good-step (pointer 1 0x18) s refl)
+    asked-is : asked step x b s ≡ step (register 1 b) loaded .state
+    asked-is = ap (λ (t : State). step (register 1 b) t .state) loads-is
 
-    free-after : busy (commanded step b s) ≡ false
-    unfolding busy
-    free-after = ap (λ (t : State). isRunning (t .activity)) leads ∙ ap isRunning (leaves-the-rest .told 1 b _ translates)
+    after-is : asked step x b s ≡ setActivity Interrupt (step (register 1 b) loaded .state)
+    after-is = asked-is ∙ rw (sym (leaves-the-rest .told 1 b loaded translates)) refl
 
-    fifteen : step (register 1 b) (setPointer 0x18 s) .state .status .code ≡ 0x15
-    fifteen =
-        sym (ap (λ (t : State). t .status .code) leads)
-        ∙ ap value (sym (code-is (commanded step b s) free-after) ∙ h .code)
+-- with a status unread, 17h gives it and the four registers follow
+looked : (u : State) → told step looks (setActivity Interrupt u)
+    ≡ Done 0
+    ∷ Done (u .status .code)
+    ∷ Done 0
+    ∷ Done (registerAt 0x0B (u .registers))
+    ∷ Done (registerAt 0x0C (u .registers))
+    ∷ Done (registerAt 0x0D (u .registers))
+    ∷ Done (registerAt 0x0E (u .registers))
+    ∷ []
+unfolding everything told
+looked u = refl
 
-    shown : (a : ℕ) {n : ℕ} → isGood (pointer 1 a) ≡ true → leb 0x1A a ≡ false → eqb a 0x17 ≡ false → eqb a 0x18 ≡ false → eqb a 0x19 ≡ false
-        → registerAt a (step (register 1 b) (setPointer 0x18 s) .state .registers) ≡ n → reads step a (commanded step b s) ≡ Done n
-    shown a g e n m o x =
-        register-is (commanded step b s) free-after a g e n m o
-        ∙ ap (λ (t : State). Done (registerAt a (t .registers))) leads
-        ∙ ap (λ (v : ℕ). Done v) x
+-- the n-th number that was read
+abbrev numberAt : ℕ → List Answer → ℕ
+numberAt n l = value (getD l n Held)
 
-    located : length (cdbOf s) ≡ 12 → Located b s
-    unfolding isGood both
-    located long =
-        let found = places-right .real 1 b (setPointer 0x18 s) translates long fifteen in
-        let at = found .2 in
-        record {
-          place = found .0;
-          lies = found .1;
-          sector = shown 0x0B refl refl refl refl refl (at .sector);
-          head = shown 0x0C refl refl refl refl refl (at .head);
-          cylinder-high = shown 0x0D refl refl refl refl refl (at .cylinder-high);
-          cylinder-low = shown 0x0E refl refl refl refl refl (at .cylinder-low);
-        }
+record Found (x : List ℕ) (p : Place) : Type 0 where
+  pub place : Physical
+  pub lies : Lies (geometryOf x) (addressOf x) place
+  pub sector : place .sector ≡ p .sector
+  pub head : place .head ≡ p .head
+  pub cylinder-high : place .cylinder / 256 ≡ p .cylinder-high
+  pub cylinder-low : place .cylinder % 256 ≡ p .cylinder-low
+
+module _ (s : State) (r : Ready s) (long : length (cdbOf s) ≡ 12) (x : List ℕ) (h : Loads x) (b : ℕ) (c : IsTranslate b) where
+  found : (p : Place) → Finds step s x b p → Found x p
+  found p e =
+      let u : State = step (register 1 b) (loaded s r long x h) .state in
+      let read = sym (looked u) ∙ ap (told step looks) (sym (after-is s r long x h b c)) ∙ e in
+      let real = places-right .real 1 b (loaded s r long x h) (translates s r long x h b c) (h .long) (ap (numberAt 1) read) in
+      let at = real .2 in
+      record {
+        place = real .0;
+        lies = real .1;
+        sector = sym (at .sector) ∙ ap (numberAt 3) read;
+        head = sym (at .head) ∙ ap (numberAt 4) read;
+        cylinder-high = sym (at .cylinder-high) ∙ ap (numberAt 5) read;
+        cylinder-low = sym (at .cylinder-low) ∙ ap (numberAt 6) read;
+      }
 
 -- ---- two
 
@@ -182,57 +190,45 @@ module _ (s : State) (r : Ready s) where
 same-number : (x y : ℕ) → x / 256 ≡ y / 256 → x % 256 ≡ y % 256 → x ≡ y
 same-number x y h l = sym (div-add-mod' x 256) ∙ ap₂ (λ (a b : ℕ). a * 256 + b) h l ∙ div-add-mod' y 256
 
-module _ (s t : State) (r : Ready s) (q : Ready t) where
-  same-registers : SameDisk step s t → SameRegisters s t
-  unfolding isGood both
-  same-registers d =
-      record {
-        sectors = both-read (d .sectors) (at-s 0x03 refl refl refl refl refl) (at-t 0x03 refl refl refl refl refl);
-        heads = both-read (d .heads) (at-s 0x04 refl refl refl refl refl) (at-t 0x04 refl refl refl refl refl);
-        cylinders-high = both-read (d .cylinders-high) (at-s 0x05 refl refl refl refl refl) (at-t 0x05 refl refl refl refl refl);
-        cylinders-low = both-read (d .cylinders-low) (at-s 0x06 refl refl refl refl refl) (at-t 0x06 refl refl refl refl refl);
-        spares =
-            ap (λ (a : Answer). eqb (value a) 0) (sym (at-s 0x0C refl refl refl refl refl))
-            ∙ d .spares
-            ∙ ap (λ (a : Answer). eqb (value a) 0) (at-t 0x0C refl refl refl refl refl);
-        per-cylinder-high =
-            λ e. both-read (d .per-cylinder-high (none e)) (at-s 0x0D refl refl refl refl refl) (at-t 0x0D refl refl refl refl refl);
-        per-cylinder-low =
-            λ e. both-read (d .per-cylinder-low (none e)) (at-s 0x0E refl refl refl refl refl) (at-t 0x0E refl refl refl refl refl);
-      }
-    where
-      at-s : (a : ℕ) → isGood (pointer 1 a) ≡ true → leb 0x1A a ≡ false → eqb a 0x17 ≡ false → eqb a 0x18 ≡ false → eqb a 0x19 ≡ false
-          → reads step a s ≡ Done (registerAt a (s .registers))
-      at-s = register-is s (free s r)
+module _ (x y : List ℕ) (h : SameDisk x y) where
+  same-spares : hasSparesIn x ≡ hasSparesIn y
+  unfolding hasSparesIn
+  same-spares = ap not (h .spares)
 
-      at-t : (a : ℕ) → isGood (pointer 1 a) ≡ true → leb 0x1A a ≡ false → eqb a 0x17 ≡ false → eqb a 0x18 ≡ false → eqb a 0x19 ≡ false
-          → reads step a t ≡ Done (registerAt a (t .registers))
-      at-t = register-is t (free t q)
+  spares-are : {t : Bool} → eqb (getD x 9 0) 0 ≡ t → hasSparesIn x ≡ not t
+  unfolding hasSparesIn
+  spares-are e = ap not e
 
-      none : hasNone s ≡ false → hasNoSparesRead step s ≡ false
-      none e = ap (λ (a : Answer). eqb (value a) 0) (at-s 0x0C refl refl refl refl refl) ∙ e
+  same-per : perCylinderIn x ≡ perCylinderIn y
+  unfolding perCylinderIn
+  same-per =
+      by-test (eqb (getD x 9 0) 0)
+      (λ e.
+      passed-over _ _ (spares-are e)
+      ∙ ap₂ (λ (a b : ℕ). a * b) (h .sectors) (h .heads)
+      ∙ sym (passed-over _ _ (sym same-spares ∙ spares-are e)))
+      (λ e.
+      taken _ _ (spares-are e)
+      ∙ ap₂ joined (h .per-cylinder-high e) (h .per-cylinder-low e)
+      ∙ sym (taken _ _ (sym same-spares ∙ spares-are e)))
 
-  same-address : SameDisk step s t → {b d : ℕ} → Located b s → Located d t
-      → SamePlace step (commanded step b s) (commanded step d t) → addressOf (cdbOf s) ≡ addressOf (cdbOf t)
-  same-address x y z p =
-      let g : geometryOf (cdbOf s) ≡ geometryOf (cdbOf t) = same-geometry s t (same-registers x) in
-      let sector : y .place .sector ≡ z .place .sector = both-read (p .sector) (y .sector) (z .sector) in
-      let head : y .place .head ≡ z .place .head = both-read (p .head) (y .head) (z .head) in
-      let cylinder : y .place .cylinder ≡ z .place .cylinder =
-      same-number _ _ (both-read (p .cylinder-high) (y .cylinder-high) (z .cylinder-high))
-      (both-read (p .cylinder-low) (y .cylinder-low) (z .cylinder-low)) in
-      y .lies .address
-      ∙ ap (λ (k : Geometry). y .place .cylinder * k .perCylinder + y .place .head * k .sectors + y .place .sector) g
-      ∙ rw (sector, head, cylinder) (sym (z .lies .address))
+  same-geometry : geometryOf x ≡ geometryOf y
+  same-geometry = rw (h .sectors, h .heads, h .cylinders-high, h .cylinders-low, same-per, same-spares) refl
+
+  same-address : {p : Place} → Found x p → Found y p → addressOf x ≡ addressOf y
+  same-address a b =
+      let sector : a .place .sector ≡ b .place .sector = a .sector ∙ sym (b .sector) in
+      let head : a .place .head ≡ b .place .head = a .head ∙ sym (b .head) in
+      let cylinder : a .place .cylinder ≡ b .place .cylinder =
+      same-number _ _ (a .cylinder-high ∙ sym (b .cylinder-high)) (a .cylinder-low ∙ sym (b .cylinder-low)) in
+      a .lies .address
+      ∙ ap (λ (g : Geometry). a .place .cylinder * g .perCylinder + a .place .head * g .sectors + a .place .sector) same-geometry
+      ∙ rw (sector, head, cylinder) (sym (b .lies .address))
 
 pub same-place-same-address : SamePlaceSameAddress step
 same-place-same-address =
     record {
       same =
-          λ l m b d r q x y z p.
-          let s : State = run step l fresh in
-          let t : State = run step m fresh in
-          address-is s r
-          ∙ same-address s t r q x (located s r b y (reached l .ok .cdb-long)) (located t q d z (reached m .ok .cdb-long)) p
-          ∙ sym (address-is t q);
+          λ l m x y b d p r q h k c e g u v.
+          same-address x y g (found _ r (reached l .ok .cdb-long) x h b c p u) (found _ q (reached m .ok .cdb-long) y k d e p v);
     }

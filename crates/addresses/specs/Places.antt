@@ -7,19 +7,24 @@
 --   PlacesRight f         a step's law: 15h exactly where the address lies somewhere, and then there; else 45h
 --   Kept b s t            t is s but for 0Bh to 0Eh, the code with INT, LCI and PE, and 18h, which reads b
 --   LeavesTheRest f       a step's law: so it is, and with 45h 0Bh to 0Eh stay too
+--   isLoad m s            an access with the mark m, made in s, writes one of registers 03 to 0Eh
+--   LoadStays f           a step's law: no register access changes 03 to 0Eh but a Reset, a write of one of them, and a translation with 15h
 use mathlib.Core.Path.{_≡_}
-use mathlib.Core.Bool.{true, false}
+use mathlib.Core.Bool.{Bool, true, false}
 use mathlib.Core.List.{List}
 use mathlib.Core.Logic.{_⊎_}
 use Prim.Native.Nat.{ℕ, _+_, _*_, _/_, _%_, _<_, _≤_}
+use lib.Dec.{ltb, leb}
 use lib.ListN.{length}
+use Rattle.chip.specs.Choice.{both}
 use Rattle.chip.specs.Translate.{Geometry, Physical, geometryOf, addressOf}
 use Rattle.chip.specs.Registers.{registerAt}
 use Rattle.chip.specs.Interrupts.{withoutOutgoing, closed}
-use Rattle.chip.specs.Calls.{Call, Outcome, register}
+use Rattle.chip.specs.Calls.{Call, Outcome, register, isSet}
 use Rattle.chip.specs.declared.State.{State}
 use Rattle.chip.specs.declared.Answer.the-variants.{Done}
 use Rattle.chip.specs.declared.Activity.the-variants.{Interrupt}
+use Rattle.unread.specs.Status.{isReset}
 use Rattle.unread.specs.Because.{Translates}
 
 pub record Limits (g : Geometry) : Type 0 where
@@ -79,3 +84,10 @@ pub record LeavesTheRest (f : Call → State → Outcome) : Type 0 where
   pub kept : (m b : ℕ) (s : State) → Translates (register m b) s → Kept b s (f (register m b) s .state)
   pub refused-kept : (m b : ℕ) (s : State) → Translates (register m b) s → f (register m b) s .state .status .code ≡ 0x45
       → f (register m b) s .state .registers ≡ s .registers
+
+unfoldable pub isLoad : ℕ → State → Bool
+isLoad m s = both (isSet m) (both (leb 0x03 (s .status .pointer)) (ltb (s .status .pointer) 0x0F))
+
+pub record LoadStays (f : Call → State → Outcome) : Type 0 where
+  pub stays : (m b : ℕ) (s : State) → isReset (register m b) s ≡ false → isLoad m s ≡ false
+      → (cdbOf (f (register m b) s .state) ≡ cdbOf s) ⊎ (Translates (register m b) s × (f (register m b) s .state .status .code ≡ 0x15))

@@ -11,17 +11,24 @@
 --   agrees         every address gives 15h
 --   countsFromOne  the first sector of a track is 1
 --   turns          head and sector change places
---   clobbers       the address at 07 to 0Ah is cleared
+--   clobbers       the low byte of the address, 0Ah, is cleared
 --   lingers        the place is written, and INT does not come
+--   mutters        an address that is not on the disk gives 40h
+--   stalls         the place is written and told, and the write is answered Held
+--   forgets        the read of 17h that gives 15h clears the place
+--   scribbles      with a status unread, or while a command runs, 0Bh to 0Eh are written, and nothing is told
+--   dirties        while connected and idle it raises 40h, and writes 0Bh to 0Eh
 --   reaches        it is taken while connected and idle too
 --   tramples       it is taken over a status that nobody has read
 --   isTranslation c s   the call c is a Translate Address that the step carries out in s
---   by t                the step, with t in the place of its translation
+--   byteOf c            the byte that c writes
+--   by t                the step, with t in the place of its translation; t gets registers 03 to 0Eh, and the state with 18h, LCI and PE as after
+--                       every command that is taken. With the translation itself it is the step (`frame`, proofs/Frame.antt)
 --   translatesBy g r p  .. with the disk by g, refusals by r and places by p
 use mathlib.Core.Bool.{Bool, true, false, not}
-use mathlib.Core.List.{List}
+use mathlib.Core.List.{List, []}
 use Prim.Native.Nat.{ℕ, suc, _-_, _*_, _%_}
-use lib.Dec.{leb}
+use lib.Dec.{eqb, leb}
 use lib.ListN.{getD, set}
 use Rattle.chip.specs.Choice.{pick, both, either}
 use Rattle.chip.specs.State.{setCdb, setActivity}
@@ -29,10 +36,12 @@ use Rattle.chip.specs.Interrupts.{interrupted, busy, raise}
 use Rattle.chip.specs.Translate.{Geometry, Physical, joined, geometryOf, addressOf, headOf, dividesByZero, isBeyondCylinders, hasTooManyCylinders, hasTooManyHeads, exceeds, physicalOf, placed, translatedBy}
 use Rattle.chip.specs.Commands.{accepted}
 use Rattle.chip.specs.Connections.{isConnected, isDisconnected}
-use Rattle.chip.specs.Calls.{Call, Outcome}
+use Rattle.chip.specs.Answers.{done}
+use Rattle.chip.specs.Calls.{Call, Outcome, pointer, auxiliary, register, block, time, answer, reselection, request, free, plain, step}
 use Rattle.chip.specs.declared.State.{State}
+use Rattle.chip.specs.declared.Answer.the-variants.{Held}
 use Rattle.chip.specs.declared.Activity.the-variants.{Idle}
-use Rattle.unread.specs.Status.{isCommand}
+use Rattle.unread.specs.Status.{isCommand, readsAt}
 use Rattle.unread.specs.Wrong.{instead}
 use Rattle.addresses.specs.Places.{cdbOf}
 
@@ -40,9 +49,19 @@ unfoldable pub isTranslation : Call → State → Bool
 isTranslation c s =
     both (isCommand 0x18 c s) (both (isDisconnected (s .wire .connection)) (both (not (busy s)) (not (interrupted s))))
 
+abbrev pub byteOf : Call → ℕ
+byteOf (pointer m b) = b
+byteOf auxiliary = 0
+byteOf (register m b) = b
+byteOf (block m l) = 0
+byteOf (time n) = 0
+byteOf answer = 0
+byteOf (reselection lines) = 0
+byteOf (request p b q) = 0
+byteOf free = 0
+
 unfoldable pub by : (List ℕ → State → State) → Call → State → Outcome
-unfolding instead
-by t = instead isTranslation (λ s. t (cdbOf s) (accepted 0x18 s))
+by t c s = pick (isTranslation c s) (plain (done 0 (t (cdbOf s) (accepted (byteOf c) s)))) (step c s)
 
 unfoldable pub translatesBy : (List ℕ → Geometry) → (Geometry → ℕ → Bool) → (Geometry → ℕ → Physical) → Call → State → Outcome
 unfolding by
@@ -135,14 +154,48 @@ unfoldable pub lingers : Call → State → Outcome
 unfolding by
 lingers = by λ l s. setActivity Idle (translatedBy l s)
 
+unfoldable pub mutters : Call → State → Outcome
+unfolding by
+mutters = by λ l s. pick (exceeds (geometryOf l) (addressOf l)) (raise 0x40 s) (translatedBy l s)
+
+unfoldable pub stalls : Call → State → Outcome
+stalls c s =
+    pick (isTranslation c s)
+    (record { answer = Held; state = translatedBy (cdbOf s) (accepted (byteOf c) s); lent = [] })
+    (step c s)
+
+-- the place over 0Bh to 0Eh, whatever it is
+abbrev scrawled : State → State
+scrawled s = setCdb (placed (physicalOf (geometryOf (cdbOf s)) (addressOf (cdbOf s))) (cdbOf s)) s
+
 unfoldable pub reaches : Call → State → Outcome
-unfolding instead
-reaches =
-    instead (λ c s. both (isCommand 0x18 c s) (both (isConnected (s .wire .connection)) (both (not (busy s)) (not (interrupted s)))))
-    (λ s. translatedBy (cdbOf s) (accepted 0x18 s))
+reaches c s =
+    pick
+    (both (isCommand 0x18 c s) (both (isConnected (s .wire .connection)) (both (not (busy s)) (not (interrupted s)))))
+    (plain (done 0 (translatedBy (cdbOf s) (accepted (byteOf c) s))))
+    (step c s)
 
 unfoldable pub tramples : Call → State → Outcome
+tramples c s =
+    pick (both (isCommand 0x18 c s) (both (isDisconnected (s .wire .connection)) (interrupted s)))
+    (plain (done 0 (translatedBy (cdbOf s) (accepted (byteOf c) s))))
+    (step c s)
+
+-- the step, and then g where the call passes the test
+abbrev also : (Call → State → Bool) → (State → State) → Call → State → Outcome
+also test g c s =
+    pick (test c s) (record { answer = step c s .answer; state = g (step c s .state); lent = step c s .lent }) (step c s)
+
+unfoldable pub forgets : Call → State → Outcome
+forgets =
+    also (λ c s. both (readsAt 0x17 c s) (eqb (s .status .code) 0x15))
+    (λ s. setCdb (placed (record { cylinder = 0; head = 0; sector = 0 }) (cdbOf s)) s)
+
+unfoldable pub scribbles : Call → State → Outcome
 unfolding instead
-tramples =
-    instead (λ c s. both (isCommand 0x18 c s) (both (isDisconnected (s .wire .connection)) (interrupted s)))
-    (λ s. translatedBy (cdbOf s) (accepted 0x18 s))
+scribbles = instead (λ c s. both (isCommand 0x18 c s) (either (busy s) (interrupted s))) scrawled
+
+unfoldable pub dirties : Call → State → Outcome
+dirties =
+    also
+    (λ c s. both (isCommand 0x18 c s) (both (isConnected (s .wire .connection)) (both (not (busy s)) (not (interrupted s))))) scrawled

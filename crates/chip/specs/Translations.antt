@@ -39,7 +39,7 @@ translations =
     -- two spares: 66 sectors are left on a cylinder
     ∷ translates (four 17 4 2 0x67 ++ four 0 0 0 65) (four 0 2 0 66) 0x15 (four 14 3 0 0)
     ∷ translates (four 17 4 2 0x67 ++ four 0 0 0 66) (four 0 2 0 66) 0x15 (four 0 0 0 1)
-    -- 0D/0Eh is believed, also above sectors times heads: the head reached is then 2 of 2
+    -- 0D/0Eh is believed, also above sectors times heads: address 4 would be on head 2, and there are heads 0 and 1
     ∷ translates (four 2 2 0 10 ++ four 0 0 0 3) (four 0 1 0 10) 0x15 (four 1 1 0 0)
     ∷ translates (four 2 2 0 10 ++ four 0 0 0 4) (four 7 1 0 10) 0x45 (four 7 1 0 10)
     -- 4096 cylinders and 15 heads pass with spares; one more does not

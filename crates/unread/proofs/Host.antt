@@ -182,7 +182,7 @@ module _
     select-quiet w f = quiet-of s i (not-busy-ends s (select-idle (codeOf b) s w f))
 
     -- a valid Translate Address that no running command refuses
-    translates : eqb (codeOf b) 0x18 ≡ true → isRefusedBusy (codeOf b) s ≡ false → isValid (codeOf b) s ≡ true
+    pub translates : eqb (codeOf b) 0x18 ≡ true → isRefusedBusy (codeOf b) s ≡ false → isValid (codeOf b) s ≡ true
         → B.Translates (register m b) s
     unfolding isValid entryOf table
     translates e r v =

@@ -12,7 +12,7 @@
 --   Offered n b m p s    the Request n b m, of phase p, comes to the running command
 --   LastMessage n b m s  .. is the last Message In byte of a Transfer Info
 --   Translates c s       the call c is a Translate Address that s carries out
---   isOffDisk s          the address in the registers is on no place of the disk in them
+--   isOffDisk s          one of the five reasons for 45h holds of the registers of s
 --   expects g p b s      at the stage g a Request of phase p with the byte b is expected (expectsBody, expectsLate: two stages of it)
 --   isBeforeStatus g     the stage g is one that takes the messages 02 and 04
 --   wants p b s          the running command wants it: a byte of it would cross, were there room or a byte
@@ -198,7 +198,7 @@ pub data Because : Call → State → ℕ → Type 0 where
   -- 11h: Answer to a Select
   answers : {s : State} → goesOn (s .activity) ≡ true → s .wire .connection ≡ Selecting → isSelectAndTransfer (s .activity) ≡ false
       → Because answer s 0x11
-  -- 15h: Translate Address, of an address that is on the disk
+  -- 15h: Translate Address, with no reason for 45h
   locates : {c : Call} {s : State} → Translates c s → isOffDisk s ≡ false → Because c s 0x15
   -- 16h: the resume at 60h
   resumes : {c : Call} {s : State} (k : ℕ) → isCommand k c s ≡ true → either (eqb k 0x08) (eqb k 0x09) ≡ true → Quiet s
@@ -217,7 +217,7 @@ pub data Because : Call → State → ℕ → Type 0 where
   times-out : {n : ℕ} {s : State} → isGood (time n) ≡ true → goesOn (s .activity) ≡ true → s .wire .connection ≡ Selecting
       → eqb (s .registers .setup .timeout) 0 ≡ false → leb (s .registers .setup .timeout) (s .wire .elapsed + n) ≡ true
       → Because (time n) s 0x42
-  -- 45h: Translate Address, of an address that is not
+  -- 45h: Translate Address, with one
   misses : {c : Call} {s : State} → Translates c s → isOffDisk s ≡ true → Because c s 0x45
   -- 80h: Reselection, not connected, other than by the Target that a waiting Select-And-Transfer names
   reselects : {lines : ℕ} {s : State} → isGood (reselection lines) ≡ true → Quiet s → qualifies lines s ≡ true
