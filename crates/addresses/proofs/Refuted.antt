@@ -38,7 +38,7 @@ use Rattle.unread.specs.Wrong.{instead}
 use Rattle.unread.proofs.Choosing.{clash}
 use Rattle.unread.proofs.Pendings.{int-by}
 use Rattle.addresses.specs.Places.{Lies, PlacesRight, LeavesTheRest, isLoad, LoadStays}
-use Rattle.addresses.specs.SamePlace.{written, told, Place, SamePlaceSameAddress, SamePlaceOnAnyDisk}
+use Rattle.addresses.specs.SamePlace.{written, told, PlaceRead, SamePlaceSameAddress, SamePlaceOnAnyDisk}
 use Rattle.addresses.proofs.Places.{lies}
 use Rattle.addresses.specs.Wrong.{isTranslation, by, translatesBy, cuts, cutsHeads, skips, shrinks, believes, smears, strict, loose, givesUp, agrees, countsFromOne, turns, clobbers, lingers, mutters, stalls, forgets, scribbles, dirties, reaches, tramples}
 
@@ -68,10 +68,10 @@ narrow high = 1 ∷ 1 ∷ 255 ∷ 255 ∷ 0 ∷ high ∷ 0 ∷ 0 ∷ 0 ∷ 0 ∷
 abbrev disk : ℕ → ℕ → List ℕ
 disk sectors n = sectors ∷ 4 ∷ 2 ∷ 0x67 ∷ 0 ∷ 0 ∷ 0 ∷ n ∷ 0 ∷ 0 ∷ 0 ∷ 0 ∷ []
 
-abbrev firstOfAll : Place
+abbrev firstOfAll : PlaceRead
 firstOfAll = record { sector = 0; head = 0; cylinder-high = 0; cylinder-low = 0 }
 
-abbrev firstOfHeadOne : Place
+abbrev firstOfHeadOne : PlaceRead
 firstOfHeadOne = record { sector = 0; head = 1; cylinder-high = 0; cylinder-low = 0 }
 
 pub cuts-doubles : SamePlaceSameAddress cuts → ⊥

@@ -36,7 +36,7 @@ use Rattle.unread.specs.Status.{isCommand}
 use Rattle.unread.specs.Because.{Translates}
 use Rattle.unread.proofs.Told.{good-step, access-step}
 use Rattle.addresses.specs.Places.{Lies, cdbOf}
-use Rattle.addresses.specs.SamePlace.{Ready, Loads, IsTranslate, SameDisk, written, asked, looks, told, Place, Finds, SamePlaceSameAddress}
+use Rattle.addresses.specs.SamePlace.{Ready, Loads, IsTranslate, SameDisk, written, asked, looks, told, PlaceRead, Finds, SamePlaceSameAddress}
 use Rattle.addresses.proofs.Places.{places-right, leaves-the-rest}
 
 -- ---- what is written
@@ -160,7 +160,7 @@ looked u = refl
 abbrev numberAt : ℕ → List Answer → ℕ
 numberAt n l = value (getD l n Held)
 
-record Found (x : List ℕ) (p : Place) : Type 0 where
+record Found (x : List ℕ) (p : PlaceRead) : Type 0 where
   pub place : Physical
   pub lies : Lies (geometryOf x) (addressOf x) place
   pub sector : place .sector ≡ p .sector
@@ -169,7 +169,7 @@ record Found (x : List ℕ) (p : Place) : Type 0 where
   pub cylinder-low : place .cylinder % 256 ≡ p .cylinder-low
 
 module _ (s : State) (r : Ready s) (long : length (cdbOf s) ≡ 12) (x : List ℕ) (h : Loads x) (b : ℕ) (c : IsTranslate b) where
-  found : (p : Place) → Finds step s x b p → Found x p
+  found : (p : PlaceRead) → Finds step s x b p → Found x p
   found p e =
       let u : State = step (register 1 b) (loaded s r long x h) .state in
       let read = sym (looked u) ∙ ap (told step looks) (sym (after-is s r long x h b c)) ∙ e in
@@ -215,7 +215,7 @@ module _ (x y : List ℕ) (h : SameDisk x y) where
   same-geometry : geometryOf x ≡ geometryOf y
   same-geometry = rw (h .sectors, h .heads, h .cylinders-high, h .cylinders-low, same-per, same-spares) refl
 
-  same-address : {p : Place} → Found x p → Found y p → addressOf x ≡ addressOf y
+  same-address : {p : PlaceRead} → Found x p → Found y p → addressOf x ≡ addressOf y
   same-address a b =
       let sector : a .place .sector ≡ b .place .sector = a .sector ∙ sym (b .sector) in
       let head : a .place .head ≡ b .place .head = a .head ∙ sym (b .head) in

@@ -8,7 +8,7 @@
 --   asked f l b s        the state after a driver, in s, has set the pointer to 03, written l, set the pointer to 18h and written b
 --   looks                it reads 17h, and then 0Bh to 0Eh
 --   told f l s           what a list of calls answers, one after the other
---   Place                what it reads at 0Bh to 0Eh
+--   PlaceRead            what it reads at 0Bh to 0Eh
 --   Finds f s l b p      a driver that asks l and b in s, and then looks, reads 15h and the place p
 --   SamePlaceSameAddress f   the claim, of any two lists of calls from a fresh controller
 --   SamePlaceOnAnyDisk f     too much: the same where the disks may differ. It is false of the controller
@@ -64,13 +64,13 @@ unfoldable pub told : (Call → State → Outcome) → List Call → State → L
 told f [] s = []
 told f (c ∷ l) s = f c s .answer ∷ told f l (f c s .state)
 
-pub record Place : Type 0 where
+pub record PlaceRead : Type 0 where
   pub sector : ℕ
   pub head : ℕ
   pub cylinder-high : ℕ
   pub cylinder-low : ℕ
 
-abbrev pub Finds : (Call → State → Outcome) → State → List ℕ → ℕ → Place → Type 0
+abbrev pub Finds : (Call → State → Outcome) → State → List ℕ → ℕ → PlaceRead → Type 0
 Finds f s l b p =
     told f looks (asked f l b s)
     ≡ Done 0
@@ -83,10 +83,10 @@ Finds f s l b p =
     ∷ []
 
 pub record SamePlaceSameAddress (f : Call → State → Outcome) : Type 0 where
-  pub same : (l m : List Call) (x y : List ℕ) (b d : ℕ) (p : Place) → Ready (run f l fresh) → Ready (run f m fresh) → Loads x → Loads y
+  pub same : (l m : List Call) (x y : List ℕ) (b d : ℕ) (p : PlaceRead) → Ready (run f l fresh) → Ready (run f m fresh) → Loads x → Loads y
       → IsTranslate b → IsTranslate d → SameDisk x y → Finds f (run f l fresh) x b p → Finds f (run f m fresh) y d p
       → addressOf x ≡ addressOf y
 
 pub record SamePlaceOnAnyDisk (f : Call → State → Outcome) : Type 0 where
-  pub same : (l m : List Call) (x y : List ℕ) (b d : ℕ) (p : Place) → Ready (run f l fresh) → Ready (run f m fresh) → Loads x → Loads y
+  pub same : (l m : List Call) (x y : List ℕ) (b d : ℕ) (p : PlaceRead) → Ready (run f l fresh) → Ready (run f m fresh) → Loads x → Loads y
       → IsTranslate b → IsTranslate d → Finds f (run f l fresh) x b p → Finds f (run f m fresh) y d p → addressOf x ≡ addressOf y
