@@ -1,4 +1,4 @@
--- The frame of the wrong steps: with the controller's own translation it is the step, so each of them has the one mistake that it is given.
+-- What most wrong steps are made by: with the controller's own translation it is the step, so such a one has only the mistake of its translation.
 --   frame   `by translatedBy` is the step
 use mathlib.Core.Path.{_≡_, refl, sym, ap, _∙_}
 use mathlib.Core.Bool.{true, false, not}

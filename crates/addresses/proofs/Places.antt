@@ -52,7 +52,7 @@ module _ (g : Geometry) (n : ℕ) where
             ∙ ap (λ (x : ℕ). n / per * per + x) (sym parts)
             ∙ sym (add-assoc (n / per * per) (rest / g .sectors * g .sectors) (rest % g .sectors));
         on-track = mod-lt rest (w .on-track);
-        on-cylinder = rw parts (mod-lt n (w .on-cylinder));
+        on-cylinder = rw parts (omega (arith, mod-lt n (w .on-cylinder)));
         head = w .head;
         cylinder = w .cylinder;
         limits = λ e. record { cylinders = w .few-cylinders e; heads = w .few-heads e };
