@@ -1,73 +1,68 @@
-// Block moves: chip's blockRead and blockWritten, single accesses to the Data register until the slice ends or answer 7 would come.
-// The loops go over the FIFO alone (room fifo), and the state is made anew once.
+// Block moves, in the image: chip's blockRead and blockWritten, single accesses to the Data register until the slice ends or answer 7
+// would come. The bytes go between the slice and their places in the image (room fifo); an ending settles once, after the last.
 ghost use mathlib.Core.Path.{_≡_};
+ghost use Rattle.chip.specs.Image.{imageOf, stateOf};
+ghost use Rattle.chip.specs.Interrupts.{settled};
 ghost use Rattle.chip.specs.Registers.{blockRead, blockWritten};
+ghost use Rattle.image.specs.IsImage.{IsImage};
 use chip::Direction;
-use chip::State;
-use fifo::bulk;
+use image::waiting;
 use state::get;
-use state::set;
 
-// The number of bytes moved, and the state then.
-pub struct Moved {
-    pub number: u8,
-    pub state: State,
+// What an ending comes to once the FIFO is read out. Data comes in, so no byte of the FIFO changes.
+pub fn settle(image: &mut [u8])
+    requires { ⌜ IsImage (now image) × (stateOf (now image) .transfer .direction ≡ Direction.In) ⌝ }
+    ensures { λ _. ⌜ now (image .exit) ≡ imageOf (settled (stateOf (now (image .entry)))) ⌝ }
+{
+    let s = image::state(image);
+    image::write_on(interrupts::settled(s), image);
 }
 
-pub fn block_read(s: State, out: &mut [u8]) -> Moved
-    ensures { λ r. ⌜ (r .number ≡ blockRead (now (out .entry)) s .number) × (r .state ≡ blockRead (now (out .entry)) s .state) × (now (out .exit) ≡ blockRead (now (out .entry)) s .bytes) ⌝ }
+// The bytes that wait, into the slice; an ending settles where one moved. How many moved.
+fn read_in(image: &mut [u8], out: &mut [u8]) -> u8
+    requires { ⌜ IsImage (now image) × (stateOf (now image) .transfer .direction ≡ Direction.In) ⌝ }
+    ensures { λ r. ⌜ (r ≡ blockRead (now (out .entry)) (stateOf (now (image .entry))) .number)
+        × (now (image .exit) ≡ imageOf (blockRead (now (out .entry)) (stateOf (now (image .entry))) .state))
+        × (now (out .exit) ≡ blockRead (now (out .entry)) (stateOf (now (image .entry))) .bytes) ⌝ }
 {
+    let s = image::state(image);
+    let number = waiting::drain(image, out);
+    if number == 0 {
+        return 0;
+    }
+    if interrupts::in_ending(s) {
+        settle(image);
+    }
+    number
+}
+
+// Reads into the slice: how many.
+pub fn block_read(image: &mut [u8], out: &mut [u8]) -> u8
+    requires { ⌜ IsImage (now image) ⌝ }
+    ensures { λ r. ⌜ (r ≡ blockRead (now (out .entry)) (stateOf (now (image .entry))) .number)
+        × (now (image .exit) ≡ imageOf (blockRead (now (out .entry)) (stateOf (now (image .entry))) .state))
+        × (now (out .exit) ≡ blockRead (now (out .entry)) (stateOf (now (image .entry))) .bytes) ⌝ }
+{
+    let s = image::state(image);
     let direction = get::direction(s);
     match direction {
-        Direction::Unfixed => Moved {
-            number: 0,
-            state: s,
-        },
-        Direction::In => {
-            let q = s.fifo;
-            let drained = bulk::drain(q, out);
-            let number = drained.moved;
-            if number == 0 {
-                return Moved {
-                    number: 0,
-                    state: s,
-                };
-            }
-            let rest = drained.fifo;
-            let read = set::fifo(s, rest);
-            let settled = interrupts::settled(read);
-            Moved {
-                number,
-                state: settled,
-            }
-        }
-        Direction::Out => Moved {
-            number: 0,
-            state: s,
-        },
+        Direction::Unfixed => 0,
+        Direction::In => read_in(image, out),
+        Direction::Out => 0,
     }
 }
 
-pub fn block_written(s: State, from: &[u8]) -> Moved
-    ensures { λ r. ⌜ (r .number ≡ blockWritten (now (from .entry)) s .number) × (r .state ≡ blockWritten (now (from .entry)) s .state) ⌝ }
+// Writes out of the slice: how many.
+pub fn block_written(image: &mut [u8], from: &[u8]) -> u8
+    requires { ⌜ IsImage (now image) ⌝ }
+    ensures { λ r. ⌜ (r ≡ blockWritten (now (from .entry)) (stateOf (now (image .entry))) .number)
+        × (now (image .exit) ≡ imageOf (blockWritten (now (from .entry)) (stateOf (now (image .entry))) .state)) ⌝ }
 {
+    let s = image::state(image);
     let direction = get::direction(s);
     match direction {
-        Direction::Unfixed => Moved {
-            number: 0,
-            state: s,
-        },
-        Direction::In => Moved {
-            number: 0,
-            state: s,
-        },
-        Direction::Out => {
-            let q = s.fifo;
-            let filled = bulk::fill(count::left(s), q, from);
-            let number = filled.moved;
-            let rest = filled.fifo;
-            let state = set::fifo(s, rest);
-            Moved { number, state }
-        }
+        Direction::Unfixed => 0,
+        Direction::In => 0,
+        Direction::Out => waiting::fill(count::left(s), image, from),
     }
 }

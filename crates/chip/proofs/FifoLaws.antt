@@ -6,16 +6,18 @@
 --   fifo-length fifo-back fifo-valid bytes-back fifo-ok   its bytes in the image
 use mathlib.Core.Path.{_≡_, refl, ap, sym, _∙_}
 use mathlib.Core.Bool.{true, false}
-use mathlib.Core.List.{List, [], _∷_, _++_, append-assoc}
+use mathlib.Core.List.{List, [], _∷_, _++_, append-assoc, append-nil}
 use Prim.Native.Nat.{ℕ, suc, _+_, _-_, _<_, _≤_}
+use native.Mathlib.Nat.{zero-add, suc-add, add-zero}
 use native.Mathlib.Numerals.{add-one}
 use native.Mathlib.Omega.{arith}
 use lib.Dec.{eqb, ltb}
-use lib.ListN.{length, take, drop, getD, set, length-append, length-drop, length-set, take-append-drop}
-use lib.Seq.{drop-cons, drop-append-le, drop-drop, drop-set-lt, length-take-le, take-append-seam, take-append-add, take-all, set-split}
-use borrow.Author.Tests.{ltb-true, lt-ltb, eqb-false, eqb-true, eq-eqb, ne-eqb}
+use lib.ListN.{length, take, drop, getD, set, length-append, length-drop, length-set, drop-of-length-le, List·getD-append}
+use lib.Seq.{drop-cons, drop-set-lt, drop-set-add, getD-drop, getD-take, length-take-le, take-all, take-append-le, take-nil, take-set-le, take-set-lt, take-suc, take-suc-set, set-append-left}
+use borrow.Author.Tests.{ltb-true, ltb-false, lt-ltb, le-ltb, eqb-false, eqb-true, ne-eqb}
 use Rattle.chip.specs.Choice.{pick, both}
-use Rattle.chip.specs.Fifo.{waiting, empty, isEmpty, hasRoom, waits, front, pop, push, areZero, fifoBytes, fifoOf, newestIn, isFifo, Whole, KeepsBytes}
+use Rattle.chip.specs.Queue as Queue
+use Rattle.chip.specs.Fifo.{inOrder, waiting, round, empty, emptied, isEmpty, hasRoom, waits, front, pop, push, fifoBytes, fifoOf, isFifo, Whole, KeepsBytes}
 use Rattle.chip.specs.declared.Fifo.{Fifo}
 use Rattle.chip.proofs.Cases.{by-pick, by-case, by-test, both-first, both-second, taken, passed-over}
 
@@ -65,187 +67,221 @@ pub room-below : (q : Fifo) → hasRoom q ≡ true → waits q < 12
 unfolding hasRoom waits
 room-below q e = ltb-true (q .held) 12 e
 
--- it stays whole
+-- the places go round
 
-none-whole : Whole empty
-unfolding both
-none-whole = record { long = refl; few = omega arith; unused = refl }
+pub round-in : (n : ℕ) → n < 12 → round n ≡ n
+unfolding round
+round-in n h = taken _ _ (lt-ltb n 12 h)
 
-zeros-end : (l : List ℕ) → areZero l ≡ true → areZero (l ++ (0 ∷ [])) ≡ true
-unfolding both
-zeros-end [] e = refl
-zeros-end (x ∷ l) e =
-    let h : eqb x 0 ≡ true = both-first _ _ e in
-    rw h (zeros-end l (both-second (eqb x 0) _ e))
+pub round-over : (n : ℕ) → 12 ≤ n → n < 24 → round n ≡ n - 12
+unfolding round
+round-over n h k = passed-over _ _ (le-ltb n 12 h) ∙ taken _ _ (lt-ltb n 24 k)
+
+pub round-below : (n : ℕ) → round n < 12
+unfolding round
+round-below n =
+    by-case (λ (x : ℕ). x < 12) _ (λ e. ltb-true n 12 e)
+    (λ e. by-case (λ (x : ℕ). x < 12) _ (λ f. omega (arith, ltb-true n 24 f)) (λ f. omega arith))
+
+-- a store behind the seam
+set-behind : (x y : List ℕ) (i b : ℕ) → set (x ++ y) (length x + i) b ≡ x ++ set y i b
+set-behind [] y i b = ap (λ (k : ℕ). set y k b) (zero-add i)
+set-behind (a ∷ x) y i b =
+    ap (λ (k : ℕ). set (a ∷ (x ++ y)) k b) (suc-add (length x) i) ∙ ap (λ (r : List ℕ). a ∷ r) (set-behind x y i b)
+
+-- the first of some, taken away
+one-less : (n : ℕ) (l : List ℕ) → drop 1 (take (suc n) l) ≡ take n (drop 1 l)
+one-less n [] = sym (take-nil n)
+one-less n (x ∷ l) = refl
 
 module _ (q : Fifo) (u : Whole q) where
-  -- the places past the first one that is free
-  later : q .held < 12 → areZero (drop (suc (q .held)) (q .bytes)) ≡ true
-  later h =
-      let long = u .long in
-      let e : drop (q .held) (q .bytes) ≡ getD (q .bytes) (q .held) 0 ∷ drop (suc (q .held)) (q .bytes) =
-      drop-cons (q .bytes) (q .held) 0 (omega arith) in
-      both-second (eqb (getD (q .bytes) (q .held) 0) 0) _ (rw e at (u .unused))
+  after-length : length (drop (q .first) (q .bytes)) ≡ 12 - q .first
+  after-length = rw (length-drop, u .long)
+
+  before-length : length (take (q .first) (q .bytes)) ≡ q .first
+  before-length = length-take-le (q .first) (q .bytes) (omega (arith, u .long, u .place))
+
+  order-length : length (inOrder q) ≡ 12
+  order-length = rw (length-append, after-length, before-length) (omega (arith, u .place))
+
+  -- the byte in the oldest one's place
+  abbrev oldest : ℕ
+  oldest = getD (q .bytes) (q .first) 0
+
+  order-cons : drop (q .first) (q .bytes) ≡ oldest ∷ drop (suc (q .first)) (q .bytes)
+  order-cons = drop-cons (q .bytes) (q .first) 0 (omega (arith, u .long, u .place))
+
+  -- with the next place as the first one, the places are in order with the first of them moved to the end
+  order-next : inOrder (record { bytes = q .bytes; first = round (q .first + 1); held = q .held - 1 }) ≡ drop 1 (inOrder q) ++ (oldest ∷ [])
+  order-next =
+      by-test (ltb (q .first + 1) 12)
+      (λ e.
+      let n : round (q .first + 1) ≡ q .first + 1 = round-in (q .first + 1) (ltb-true (q .first + 1) 12 e) in
+      let more : take (suc (q .first)) (q .bytes) ≡ take (q .first) (q .bytes) ++ (oldest ∷ []) =
+      take-suc (q .bytes) (q .first) 0 (omega (arith, u .long, u .place)) in
+      rw (n, add-one, more, order-cons) (sym (append-assoc (drop (suc (q .first)) (q .bytes)) (take (q .first) (q .bytes)) (oldest ∷ []))))
+      (λ e.
+      let f : q .first ≡ 11 = omega (arith, u .place, ltb-false (q .first + 1) 12 e) in
+      let n : round (q .first + 1) ≡ 0 = round-over (q .first + 1) (omega arith) (omega arith) ∙ omega arith in
+      let none : drop (suc (q .first)) (q .bytes) ≡ [] = drop-of-length-le (q .bytes) {i = suc (q .first)} (omega (arith, u .long)) in
+      let all : take (suc (q .first)) (q .bytes) ≡ q .bytes = take-all (suc (q .first)) (q .bytes) (omega (arith, u .long)) in
+      rw (n, order-cons, none)
+      (append-nil (q .bytes) ∙ sym all ∙ take-suc (q .bytes) (q .first) 0 (omega (arith, u .long, u .place))))
+
+  -- a byte stored behind those that wait
+  order-stored : (b : ℕ) → q .held < 12
+      → inOrder (record { bytes = set (q .bytes) (round (q .first + q .held)) b; first = q .first; held = q .held + 1 }) ≡ set (inOrder q) (q .held) b
+  order-stored b h =
+      by-test (ltb (q .first + q .held) 12)
+      (λ e.
+      let k : q .first + q .held < 12 = ltb-true (q .first + q .held) 12 e in
+      let n : round (q .first + q .held) ≡ q .first + q .held = round-in (q .first + q .held) k in
+      rw (n, drop-set-add (q .first) (q .bytes) (q .held) b, take-set-le (q .first) (q .bytes) (q .first + q .held) b (omega arith))
+      (sym (set-append-left (drop (q .first) (q .bytes)) (take (q .first) (q .bytes)) (q .held) b (omega (arith, after-length)))))
+      (λ e.
+      let k : 12 ≤ q .first + q .held = ltb-false (q .first + q .held) 12 e in
+      let n : round (q .first + q .held) ≡ q .first + q .held - 12 = round-over (q .first + q .held) k (omega (arith, u .place)) in
+      let m : length (drop (q .first) (q .bytes)) + (q .first + q .held - 12) ≡ q .held = omega (arith, after-length, u .place) in
+      rw (n, drop-set-lt (q .first) (q .bytes) (q .first + q .held - 12) b (omega (arith, u .place)),
+      take-set-lt (q .first) (q .bytes) (q .first + q .held - 12) b (omega (arith, u .place)))
+      (sym (set-behind (drop (q .first) (q .bytes)) (take (q .first) (q .bytes)) (q .first + q .held - 12) b)
+      ∙ ap (λ (i : ℕ). set (inOrder q) i b) m))
+
+  -- it stays whole
 
   popped-whole : Whole (pop q)
   unfolding pop isEmpty
   popped-whole =
-      by-case Whole _ (λ e. u)
-      (λ e.
-      let some : q .held ≡ 0 → ⊥ = eqb-false (q .held) 0 e in
-      let long = u .long in
-      let below = u .few in
-      let rest : length (drop 1 (q .bytes)) ≡ 11 = rw length-drop (omega arith) in
-      let front : q .held - 1 ≤ length (drop 1 (q .bytes)) = omega arith in
-      let up : 1 + (q .held - 1) ≡ q .held = omega arith in
-      let same : drop (q .held - 1) (drop 1 (q .bytes)) ≡ drop (q .held) (q .bytes) =
-      drop-drop (q .held - 1) 1 (q .bytes) ∙ ap (λ (k : ℕ). drop k (q .bytes)) up in
-      record {
-        long = rw (length-append, rest);
-        few = omega arith;
-        unused =
-            rw (drop-append-le (q .held - 1) (drop 1 (q .bytes)) (0 ∷ []) front, same)
-            (zeros-end (drop (q .held) (q .bytes)) (u .unused));
-      })
+      by-case Whole _ (λ e. u) (λ e. record { long = u .long; place = round-below _; few = omega (arith, u .few) })
 
   pushed-whole : (b : ℕ) → Whole (push b q)
   unfolding push hasRoom
   pushed-whole b =
       by-case Whole _
-      (λ e.
-      let h : q .held < 12 = ltb-true (q .held) 12 e in
-      record {
-        long = rw length-set (u .long);
-        few = omega arith;
-        unused = rw (add-one, drop-set-lt (suc (q .held)) (q .bytes) (q .held) b (omega arith)) (later h);
-      })
+      (λ e. record { long = rw length-set (u .long); place = u .place; few = omega (arith, ltb-true (q .held) 12 e) })
       (λ e. u)
 
   -- as the list sees it
-  number-is : waits q ≡ length (waiting q)
-  unfolding waits waiting
-  number-is = sym (length-take-le (q .held) (q .bytes) (omega (arith, u .long, u .few)))
-
-  -- the places, as the bytes that wait and the others
-  cut : q .bytes ≡ waiting q ++ drop (q .held) (q .bytes)
-  unfolding waiting
-  cut = sym (take-append-drop (q .held) (q .bytes))
 
   held-is : q .held ≡ length (waiting q)
-  unfolding waits
-  held-is = number-is
+  unfolding waiting
+  held-is = sym (length-take-le (q .held) (inOrder q) (omega (arith, order-length, u .few)))
 
-  empty-is : isEmpty q ≡ eqb (length (waiting q)) 0
+  number-is : waits q ≡ Queue.waits (waiting q)
+  unfolding waits
+  number-is = held-is
+
+  empty-is : isEmpty q ≡ Queue.isEmpty (waiting q)
   unfolding isEmpty
   empty-is = ap (λ (n : ℕ). eqb n 0) held-is
 
-  room-is : hasRoom q ≡ ltb (length (waiting q)) 12
+  room-is : hasRoom q ≡ Queue.hasRoom (waiting q)
   unfolding hasRoom
   room-is = ap (λ (n : ℕ). ltb n 12) held-is
 
-  module _ (b : ℕ) (l : List ℕ) (e : waiting q ≡ b ∷ l) where
-    laid : q .bytes ≡ b ∷ (l ++ drop (q .held) (q .bytes))
-    laid = cut ∙ ap (λ (x : List ℕ). x ++ drop (q .held) (q .bytes)) e
+  oldest-is : front q ≡ Queue.front (waiting q)
+  unfolding front isEmpty waiting
+  oldest-is =
+      by-test (eqb (q .held) 0)
+      (λ e. taken _ _ e ∙ ap (λ (n : ℕ). getD (take n (inOrder q)) 0 0) (sym (eqb-true (q .held) 0 e)))
+      (λ e.
+      let some = eqb-false (q .held) 0 e in
+      passed-over _ _ e ∙ sym
+      (getD-take (q .held) (inOrder q) 0 0 (omega arith) ∙ List·getD-append (drop (q .first) (q .bytes)) (take (q .first) (q .bytes)) 0 0 (omega (arith, after-length, u .place))
+      ∙ getD-drop (q .first) (q .bytes) 0 0 ∙ ap (λ (i : ℕ). getD (q .bytes) i 0) (add-zero (q .first))))
 
-    oldest-is : front q ≡ b
-    unfolding front
-    oldest-is = ap (λ (x : List ℕ). getD x 0 0) laid
-
-    number-then : q .held ≡ suc (length l)
-    number-then = held-is ∙ ap length e
-
-    less-is : waiting (pop q) ≡ l
-    unfolding pop
-    less-is =
-        ap waiting (passed-over _ _ some) ∙ shorter
-      where
-        some : isEmpty q ≡ false
-        some = unfold isEmpty in ne-eqb (q .held) 0 (λ z. omega (arith, number-then))
-
-        shorter : waiting (record { bytes = drop 1 (q .bytes) ++ (0 ∷ []); held = q .held - 1 }) ≡ l
-        shorter =
-            unfold waiting in
-            let n : q .held - 1 ≡ length l = omega (arith, number-then) in
-            let d : drop 1 (q .bytes) ≡ l ++ drop (q .held) (q .bytes) = ap (drop 1) laid in
-            rw (n, d, append-assoc l (drop (q .held) (q .bytes)) (0 ∷ [])) (take-append-seam l _)
-
-  more-is : (b : ℕ) → length (waiting q) < 12 → waiting (push b q) ≡ waiting q ++ (b ∷ [])
-  unfolding push
-  more-is b h = ap waiting (taken _ _ (room-is ∙ lt-ltb _ 12 h)) ∙ longer
+  less-is : waiting (pop q) ≡ Queue.pop (waiting q)
+  unfolding pop isEmpty
+  less-is = by-test (eqb (q .held) 0) (λ e. ap waiting (taken _ _ e) ∙ none e) (λ e. ap waiting (passed-over _ _ e) ∙ shorter e)
     where
-      longer : waiting (record { bytes = set (q .bytes) (q .held) b; held = q .held + 1 }) ≡ waiting q ++ (b ∷ [])
-      longer =
-          let s : set (q .bytes) (q .held) b ≡ waiting q ++ (b ∷ drop (suc (q .held)) (q .bytes)) =
-          unfold waiting in set-split (q .bytes) (q .held) b (omega (arith, u .long, held-is)) in
-          let t : take (length (waiting q) + 1) (waiting q ++ (b ∷ drop (suc (q .held)) (q .bytes))) ≡ waiting q ++ (b ∷ []) =
-          take-append-add (waiting q) _ 1 in
-          let w : waiting (record { bytes = set (q .bytes) (q .held) b; held = q .held + 1 })
-          ≡ take (q .held + 1) (set (q .bytes) (q .held) b) = unfold waiting in refl in
-          w ∙ ap (λ (n : ℕ). take (n + 1) (set (q .bytes) (q .held) b)) held-is
-          ∙ ap (take (length (waiting q) + 1)) s ∙ t
+      none : eqb (q .held) 0 ≡ true → waiting q ≡ drop 1 (waiting q)
+      none e =
+          unfold waiting in
+          let z = eqb-true (q .held) 0 e in
+          rw z
 
-  nothing-less-is : length (waiting q) ≡ 0 → pop q ≡ q
-  unfolding pop
-  nothing-less-is h = taken _ _ (empty-is ∙ eq-eqb _ 0 h)
+      shorter : eqb (q .held) 0 ≡ false
+          → waiting (record { bytes = q .bytes; first = round (q .first + 1); held = q .held - 1 }) ≡ drop 1 (waiting q)
+      shorter e =
+          unfold waiting in
+          let some = eqb-false (q .held) 0 e in
+          let n : q .held ≡ suc (q .held - 1) = omega arith in
+          ap (take (q .held - 1)) order-next
+          ∙ take-append-le (q .held - 1) (drop 1 (inOrder q)) (oldest ∷ []) (rw length-drop (omega (arith, order-length, u .few)))
+          ∙ sym (one-less (q .held - 1) (inOrder q)) ∙ ap (λ (k : ℕ). drop 1 (take k (inOrder q))) (sym n)
 
-  nothing-more-is : (b : ℕ) → length (waiting q) ≡ 12 → push b q ≡ q
+  more-is : (b : ℕ) → waiting (push b q) ≡ Queue.push b (waiting q)
   unfolding push
-  nothing-more-is b h = passed-over _ _ (room-is ∙ ap (λ (n : ℕ). ltb n 12) h)
+  more-is b =
+      by-test (hasRoom q)
+      (λ e. ap waiting (taken _ _ e) ∙ longer e ∙ sym (taken _ _ (sym room-is ∙ e)))
+      (λ e. ap waiting (passed-over _ _ e) ∙ sym (passed-over _ _ (sym room-is ∙ e)))
+    where
+      longer : hasRoom q ≡ true
+          → waiting (record { bytes = set (q .bytes) (round (q .first + q .held)) b; first = q .first; held = q .held + 1 }) ≡ waiting q ++ (b ∷ [])
+      longer e =
+          unfold waiting hasRoom in
+          let h : q .held < 12 = ltb-true (q .held) 12 e in
+          ap (take (q .held + 1)) (order-stored b h) ∙ ap (λ (k : ℕ). take k (set (inOrder q) (q .held) b)) (add-one (q .held))
+          ∙ take-suc-set (inOrder q) (q .held) b (omega (arith, order-length))
+
+  nothing-less-is : isEmpty q ≡ true → pop q ≡ q
+  unfolding pop
+  nothing-less-is e = taken _ _ e
+
+  nothing-more-is : (b : ℕ) → hasRoom q ≡ false → push b q ≡ q
+  unfolding push
+  nothing-more-is b e = passed-over _ _ e
+
+none-whole : Whole empty
+none-whole = record { long = refl; place = omega arith; few = omega arith }
 
 pub keeps-bytes : KeepsBytes
 keeps-bytes =
     record {
       none = unfold waiting in refl;
+      dropped = λ q u. unfold waiting in refl;
       number = number-is;
       emptiness = empty-is;
       room = room-is;
-      oldest = λ q b l u e. oldest-is q u b l e;
-      less = λ q b l u e. less-is q u b l e;
-      more = λ q b u h. more-is q u b h;
+      oldest = oldest-is;
+      less = less-is;
+      more = λ q b u. more-is q u b;
       nothing-less = nothing-less-is;
-      nothing-more = λ q b u h. nothing-more-is q u b h;
+      nothing-more = λ q b u. nothing-more-is q u b;
       begins-whole = none-whole;
+      dropped-whole = λ q u. record { long = u .long; place = omega arith; few = omega arith };
       pop-whole = popped-whole;
       push-whole = λ q b u. pushed-whole q u b;
     }
 
 -- in the image
 
-pub fifo-length : (q : Fifo) → Whole q → length (fifoBytes q) ≡ 13
+pub fifo-length : (q : Fifo) → Whole q → length (fifoBytes q) ≡ 14
 unfolding fifoBytes
 fifo-length q u = omega (arith, u .long)
 
 pub fifo-back : (q : Fifo) → Whole q → fifoOf (fifoBytes q) ≡ q
 unfolding fifoOf fifoBytes
-fifo-back q u = ap (λ (x : List ℕ). record { bytes = x; held = q .held }) (take-all 12 (q .bytes) (omega (arith, u .long)))
+fifo-back q u =
+    ap (λ (x : List ℕ). record { bytes = x; first = q .first; held = q .held }) (take-all 12 (q .bytes) (omega (arith, u .long)))
 
 pub fifo-valid : (q : Fifo) → Whole q → isFifo (fifoBytes q) ≡ true
 unfolding isFifo fifoBytes both
-fifo-valid q u = rw (lt-ltb (q .held) 13 (u .few), take-all 12 (q .bytes) (omega (arith, u .long))) (u .unused)
+fifo-valid q u = rw (lt-ltb (q .held) 13 (u .few)) (lt-ltb (q .first) 12 (u .place))
 
--- one byte more waits
-pub newest-in : (b : ℕ) (q : Fifo) → fifoBytes (push b q) ≡ newestIn b (fifoBytes q)
-unfolding newestIn fifoBytes push hasRoom
-newest-in b q =
-    by-test (ltb (q .held) 12)
-    (λ e. ap fifoBytes (taken _ _ e) ∙ placed ∙ sym (taken _ _ e))
-    (λ e. ap fifoBytes (passed-over _ _ e) ∙ sym (passed-over _ _ e))
-  where
-    placed : fifoBytes (record { bytes = set (q .bytes) (q .held) b; held = q .held + 1 }) ≡ set (set (q .held ∷ q .bytes) (1 + q .held) b) 0 (q .held + 1)
-    placed = let e : 1 + q .held ≡ suc (q .held) = omega arith in unfold fifoBytes in rw e
-
-module _ (l : List ℕ) (n : length l ≡ 13) where
+module _ (l : List ℕ) (n : length l ≡ 14) where
   pub bytes-back : fifoBytes (fifoOf l) ≡ l
   unfolding fifoBytes fifoOf
   bytes-back =
-      ap (λ (x : List ℕ). getD l 0 0 ∷ x) (take-all 12 (drop 1 l) (rw length-drop (omega arith)))
-      ∙ sym (drop-cons l 0 0 (omega arith))
+      ap (λ (x : List ℕ). getD l 0 0 ∷ getD l 1 0 ∷ x) (take-all 12 (drop 2 l) (rw length-drop (omega arith)))
+      ∙ ap (λ (x : List ℕ). getD l 0 0 ∷ x) (sym (drop-cons l 1 0 (omega arith))) ∙ sym (drop-cons l 0 0 (omega arith))
 
   pub fifo-ok : isFifo l ≡ true → Whole (fifoOf l)
   unfolding isFifo fifoOf
   fifo-ok e =
       record {
-        long = length-take-le 12 (drop 1 l) (rw length-drop (omega arith));
+        long = length-take-le 12 (drop 2 l) (rw length-drop (omega arith));
+        place = ltb-true _ 12 (both-second (ltb (getD l 0 0) 13) _ e);
         few = ltb-true _ 13 (both-first _ _ e);
-        unused = both-second (ltb (getD l 0 0) 13) _ e;
       }

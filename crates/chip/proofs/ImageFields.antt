@@ -1,6 +1,6 @@
 -- A store into a state's image is the image of the state with one field changed.
 -- `written-out`: a state with its two arrays element by element is that state, so that its image computes.
--- `pointer-stored`, `last-stored`, `low-stored`, `newest-stored`, `fifo-stored`: the field, and what is stored.
+-- `pointer-stored`, `last-stored`, `low-stored`, `fifo-stored`: the field, and what is stored.
 use mathlib.Core.Path.{_≡_, refl, ap, sym, subst, _∙_}
 use mathlib.Core.List.{List, [], _++_}
 use Prim.Native.Nat.{ℕ, _+_, _/_, _%_}
@@ -14,8 +14,7 @@ use Rattle.chip.specs.State.{setPointer, setLast, setCount, setFifo, set
 use Rattle.chip.specs.Image.{notedByte, headBytes, middleBytes, imageOf, fifoPlace}
 use Rattle.chip.specs.Ok.{Ok}
 use Rattle.chip.proofs.ImageLists.{spelled, spelled-is}
-use Rattle.chip.specs.Fifo.{push, fifoBytes, newestIn}
-use Rattle.chip.proofs.FifoLaws.{newest-in}
+use Rattle.chip.specs.Fifo.{fifoBytes}
 
 -- the command bytes are twelve
 pub record Long (s : State) : Type 0 where
@@ -60,12 +59,3 @@ low-stored n s o e =
 pub fifo-stored : (q : Fifo) (s : State) → Long s → imageOf (setFifo q s) ≡ take fifoPlace (imageOf s) ++ fifoBytes q
 unfolding imageOf headBytes middleBytes
 fifo-stored q s o = in-full (λ (t : State). imageOf (setFifo q t) ≡ take fifoPlace (imageOf t) ++ fifoBytes q) s o refl
-
-pub fifo-part : (s : State) → Long s → drop fifoPlace (imageOf s) ≡ fifoBytes (s .fifo)
-unfolding imageOf headBytes middleBytes
-fifo-part s o = in-full (λ (t : State). drop fifoPlace (imageOf t) ≡ fifoBytes (t .fifo)) s o refl
-
-pub newest-stored : (b : ℕ) (s : State) → Long s → imageOf (setFifo (push b (s .fifo)) s) ≡ take fifoPlace (imageOf s) ++ newestIn b (drop fifoPlace (imageOf s))
-newest-stored b s o =
-    fifo-stored (push b (s .fifo)) s o
-    ∙ ap (λ (x : List ℕ). take fifoPlace (imageOf s) ++ x) (newest-in b (s .fifo) ∙ ap (newestIn b) (sym (fifo-part s o)))

@@ -1,23 +1,36 @@
--- The FIFO. Its meaning is the list of waiting bytes, the oldest first: `waiting`. The rules use the seven names below it and nothing
--- else of a FIFO, the image those at the end. How the bytes are kept is this file's and room fifo's alone; `KeepsBytes` ties it to the
--- list (proofs/FifoLaws.antt).
--- Paper: "The FIFO holds 12 bytes (house)."
+-- How the FIFO keeps its bytes: in twelve places that go round. A byte stays in its place while it waits, and the two ends travel.
+-- The rules use the eight names from `empty` to `push` and nothing else of a FIFO, the image those at the end. Each of them is that of
+-- the list of waiting bytes (Queue.antt): this is `KeepsBytes`, and proofs/FifoLaws.antt has the proof. So how the bytes are kept is this
+-- file's and room fifo's alone.
 use mathlib.Core.Path.{_≡_}
-use mathlib.Core.Bool.{Bool, true}
-use mathlib.Core.List.{List, [], _∷_, _++_}
+use mathlib.Core.Bool.{Bool, true, false}
+use mathlib.Core.List.{List, _∷_, _++_}
 use Prim.Native.Nat.{ℕ, _+_, _-_, _<_}
 use lib.Dec.{eqb, ltb}
 use lib.ListN.{length, take, drop, getD, set, replicate}
 use Rattle.chip.specs.Choice.{pick, both}
+use Rattle.chip.specs.Queue as Queue
 use Rattle.chip.specs.declared.Fifo.{Fifo}
+
+-- the places from the oldest byte's on, once round
+abbrev pub inOrder : Fifo → List ℕ
+inOrder q = drop (q .first) (q .bytes) ++ take (q .first) (q .bytes)
 
 -- the bytes that wait, the oldest first
 unfoldable pub waiting : Fifo → List ℕ
-waiting q = take (q .held) (q .bytes)
+waiting q = take (q .held) (inOrder q)
+
+-- the place of a number: the twelve go round. No whole FIFO asks for one from 24 on
+unfoldable pub round : ℕ → ℕ
+round n = pick (ltb n 12) n (pick (ltb n 24) (n - 12) 0)
 
 -- nothing waits
 abbrev pub empty : Fifo
-empty = record { bytes = replicate 12 0; held = 0 }
+empty = record { bytes = replicate 12 0; first = 0; held = 0 }
+
+-- what waited is dropped. No place changes
+abbrev pub emptied : Fifo → Fifo
+emptied q = record { bytes = q .bytes; first = 0; held = 0 }
 
 unfoldable pub isEmpty : Fifo → Bool
 isEmpty q = eqb (q .held) 0
@@ -31,60 +44,73 @@ waits q = q .held
 
 -- the oldest byte
 unfoldable pub front : Fifo → ℕ
-front q = getD (q .bytes) 0 0
+front q = pick (isEmpty q) 0 (getD (q .bytes) (q .first) 0)
 
--- without the oldest byte: the others move up
+-- without the oldest byte: the next one is the oldest, and no place changes
 unfoldable pub pop : Fifo → Fifo
-pop q = pick (isEmpty q) q (record { bytes = drop 1 (q .bytes) ++ (0 ∷ []); held = q .held - 1 })
+pop q = pick (isEmpty q) q (record { bytes = q .bytes; first = round (q .first + 1); held = q .held - 1 })
 
--- with one byte more, the newest, where there is room
+-- with one byte more, the newest, where there is room: it goes into the place behind those that wait, and no other changes
 unfoldable pub push : ℕ → Fifo → Fifo
-push b q = pick (hasRoom q) (record { bytes = set (q .bytes) (q .held) b; held = q .held + 1 }) q
+push b q =
+    pick (hasRoom q)
+    (record { bytes = set (q .bytes) (round (q .first + q .held)) b; first = q .first; held = q .held + 1 }) q
 
 -- in the image
 
-abbrev pub areZero : List ℕ → Bool
-areZero [] = true
-areZero (b ∷ l) = both (eqb b 0) (areZero l)
-
--- its bytes there: how many wait, and the twelve places
+-- its bytes there: how many wait, the place of the oldest, and the twelve places
 unfoldable pub fifoBytes : Fifo → List ℕ
-fifoBytes q = q .held ∷ q .bytes
+fifoBytes q = q .held ∷ q .first ∷ q .bytes
 
 -- the FIFO of such bytes
 unfoldable pub fifoOf : List ℕ → Fifo
-fifoOf l = record { bytes = take 12 (drop 1 l); held = getD l 0 0 }
+fifoOf l = record { bytes = take 12 (drop 2 l); first = getD l 1 0; held = getD l 0 0 }
 
--- such bytes with one waiting byte more, the newest, where there is room
-unfoldable pub newestIn : ℕ → List ℕ → List ℕ
-newestIn b l = pick (ltb (getD l 0 0) 12) (set (set l (1 + getD l 0 0) b) 0 (getD l 0 0 + 1)) l
+-- the place of the newest byte
+unfoldable pub newestPlace : Fifo → ℕ
+newestPlace q = round (q .first + q .held - 1)
+
+-- the ends and the newest byte, stored over such bytes
+unfoldable pub endsOver : Fifo → List ℕ → List ℕ
+endsOver q l =
+    q .held ∷ q .first
+    ∷ pick (isEmpty q) (take 12 (drop 2 l)) (set (take 12 (drop 2 l)) (newestPlace q) (getD (q .bytes) (newestPlace q) 0))
 
 -- how many bytes that are
 abbrev pub fifoLength : ℕ
-fifoLength = 13
+fifoLength = 14
 
--- bytes are a FIFO's: at most 12 wait, and the unused places are zero
+-- bytes are a FIFO's: at most 12 wait, and the oldest has one of the twelve places. A place may hold anything
 unfoldable pub isFifo : List ℕ → Bool
-isFifo l = both (ltb (getD l 0 0) 13) (areZero (drop (getD l 0 0) (take 12 (drop 1 l))))
+isFifo l = both (ltb (getD l 0 0) 13) (ltb (getD l 1 0) 12)
 
 -- a FIFO that the form can hold. What begins whole stays so
 pub record Whole (q : Fifo) : Type 0 where
   pub long : length (q .bytes) ≡ 12
+  pub place : q .first < 12
   pub few : q .held < 13
-  pub unused : areZero (drop (q .held) (q .bytes)) ≡ true
+
+-- what a call does to the FIFO: each of these touches one place at most
+pub data Goes (q : Fifo) : Fifo → Type 0 where
+  stays : Goes q q
+  loses : Goes q (pop q)
+  gets : (b : ℕ) → Goes q (push b q)
+  drops : Goes q (emptied q)
 
 -- the keeping, as the list of waiting bytes sees it
 pub record KeepsBytes : Type 0 where
-  pub none : waiting empty ≡ []
-  pub number : (q : Fifo) → Whole q → waits q ≡ length (waiting q)
-  pub emptiness : (q : Fifo) → Whole q → isEmpty q ≡ eqb (length (waiting q)) 0
-  pub room : (q : Fifo) → Whole q → hasRoom q ≡ ltb (length (waiting q)) 12
-  pub oldest : (q : Fifo) (b : ℕ) (l : List ℕ) → Whole q → waiting q ≡ b ∷ l → front q ≡ b
-  pub less : (q : Fifo) (b : ℕ) (l : List ℕ) → Whole q → waiting q ≡ b ∷ l → waiting (pop q) ≡ l
-  pub more : (q : Fifo) (b : ℕ) → Whole q → length (waiting q) < 12 → waiting (push b q) ≡ waiting q ++ (b ∷ [])
+  pub none : waiting empty ≡ Queue.empty
+  pub dropped : (q : Fifo) → Whole q → waiting (emptied q) ≡ Queue.empty
+  pub number : (q : Fifo) → Whole q → waits q ≡ Queue.waits (waiting q)
+  pub emptiness : (q : Fifo) → Whole q → isEmpty q ≡ Queue.isEmpty (waiting q)
+  pub room : (q : Fifo) → Whole q → hasRoom q ≡ Queue.hasRoom (waiting q)
+  pub oldest : (q : Fifo) → Whole q → front q ≡ Queue.front (waiting q)
+  pub less : (q : Fifo) → Whole q → waiting (pop q) ≡ Queue.pop (waiting q)
+  pub more : (q : Fifo) (b : ℕ) → Whole q → waiting (push b q) ≡ Queue.push b (waiting q)
   -- nothing comes off an empty FIFO, and nothing goes into a full one
-  pub nothing-less : (q : Fifo) → Whole q → length (waiting q) ≡ 0 → pop q ≡ q
-  pub nothing-more : (q : Fifo) (b : ℕ) → Whole q → length (waiting q) ≡ 12 → push b q ≡ q
+  pub nothing-less : (q : Fifo) → Whole q → isEmpty q ≡ true → pop q ≡ q
+  pub nothing-more : (q : Fifo) (b : ℕ) → Whole q → hasRoom q ≡ false → push b q ≡ q
   pub begins-whole : Whole empty
+  pub dropped-whole : (q : Fifo) → Whole q → Whole (emptied q)
   pub pop-whole : (q : Fifo) → Whole q → Whole (pop q)
   pub push-whole : (q : Fifo) (b : ℕ) → Whole q → Whole (push b q)

@@ -1,4 +1,4 @@
--- The image of a state: 53 bytes, of which the first 25 are registers 00 to 18h at their addresses (docs/IMAGE.md).
+-- The image of a state: 54 bytes, of which the first 25 are registers 00 to 18h at their addresses (docs/IMAGE.md).
 -- Paper: "The state is lent as an image of one fixed length, one image per state, its form and field ranges written in docs/.
 -- Another length, or bytes that are no state's image, is Bad number."
 use mathlib.Core.Bool.{Bool}
@@ -20,7 +20,7 @@ use Rattle.chip.specs.Activity.{runningNumber, pendingNumber, codeToCome
 
 -- how many bytes an image has
 abbrev pub imageLength : ℕ
-imageLength = 53
+imageLength = 54
 
 -- where the FIFO's bytes begin; they are its end
 abbrev pub fifoPlace : ℕ
@@ -72,7 +72,7 @@ middleBytes s =
     ∷ s .wire .elapsed
     ∷ []
 
--- the image of a state: bytes 3 to 14 are the command bytes, 40 to 52 the FIFO's
+-- the image of a state: bytes 3 to 14 are the command bytes, 40 to 53 the FIFO's
 unfoldable pub imageOf : State → List ℕ
 imageOf s = headBytes s ++ (s .registers .descriptor .cdb ++ (middleBytes s ++ fifoBytes (s .fifo)))
 

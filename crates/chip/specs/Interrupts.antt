@@ -12,7 +12,7 @@ use Rattle.chip.specs.declared.Direction.the-variants.{Unfixed, In, Out}
 use Rattle.chip.specs.declared.Connection.the-variants.{Waiting}
 use Rattle.chip.specs.State.{setFifo, setCode, setActivity, setDirection, setConnection}
 use Rattle.chip.specs.Answers.{held}
-use Rattle.chip.specs.Fifo.{isEmpty, empty}
+use Rattle.chip.specs.Fifo.{isEmpty, emptied}
 use Rattle.chip.specs.Activity.{isInterrupt, isEnding, isRunning, ends}
 
 -- INT
@@ -34,7 +34,7 @@ interrupt k s = setActivity Interrupt (setCode k s)
 abbrev pub withoutOutgoing : Direction → Fifo → Fifo
 withoutOutgoing Unfixed q = q
 withoutOutgoing In q = q
-withoutOutgoing Out q = empty
+withoutOutgoing Out q = emptied q
 
 abbrev pub closed : Direction → Direction
 closed Unfixed = Unfixed

@@ -1,7 +1,9 @@
 pub mod Choice
 pub mod Connections
 pub mod Activity
+pub mod Queue
 pub mod Fifo
+pub mod Before
 pub mod State
 pub mod Answers
 pub mod Phases

@@ -12,7 +12,7 @@ use Rattle.chip.specs.declared.Direction.{Direction}
 use Rattle.chip.specs.declared.Direction.the-variants.{Unfixed, In, Out}
 use Rattle.chip.specs.declared.Phase.the-variants.{DataOut, DataIn}
 use Rattle.chip.specs.Phases.{isNoted}
-use Rattle.chip.specs.Interrupts.{busy, inEnding, bytesUnread, isIncoming, isOutgoing}
+use Rattle.chip.specs.Interrupts.{busy, bytesUnread, isIncoming, isOutgoing}
 use Rattle.chip.specs.Activity.{isSelectAndTransfer, isTransferInfo}
 use Rattle.chip.specs.Count.{dbr}
 use Rattle.chip.specs.SelectAndTransfer.{stage}
@@ -22,9 +22,9 @@ use Rattle.chip.specs.Events.{isServed}
 unfoldable pub isPlain : State → Bool
 isPlain s = both (ltb (s .status .pointer) 0x17) (not (busy s))
 
--- it is one of the Data register, and a read there takes a byte and lets no ending come
+-- it is one of the Data register, and a read there takes a byte
 unfoldable pub readsData : State → Bool
-readsData s = both (eqb (s .status .pointer) 0x19) (pick (inEnding s) false (bytesUnread s))
+readsData s = both (eqb (s .status .pointer) 0x19) (bytesUnread s)
 
 abbrev pub writesBy : Direction → State → Bool
 writesBy Unfixed s = false

@@ -110,9 +110,11 @@ pub struct Status {
     pub pe: bool,
 }
 
-// The waiting bytes, the oldest first: those of bytes below held. The others are 0.
+// Twelve places that go round. `held` bytes wait: the oldest in the place `first`, each younger one in the next. What stands in the other
+// places nobody asks.
 pub struct Fifo {
     pub bytes: [u8; 12],
+    pub first: u8,
     pub held: u8,
 }
 

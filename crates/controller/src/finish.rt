@@ -2,11 +2,11 @@
 ghost use mathlib.Core.Path.{_≡_};
 ghost use Rattle.chip.specs.Choice.{pick};
 ghost use Rattle.chip.specs.Entries.{result};
-ghost use Rattle.chip.specs.Image.{imageLength, imageOf};
+ghost use Rattle.chip.specs.Fifo.{endsOver};
+ghost use Rattle.chip.specs.Image.{fifoPlace, imageLength, imageOf};
 ghost use lib.Dec.{eqb};
-ghost use lib.ListN.{length};
-use blocks::Moved;
-use chip::Answer;
+ghost use lib.ListN.{length, take, drop};
+ghost use mathlib.Core.List.{_++_};
 use chip::Reply;
 
 pub fn finish(r: Reply, image: &mut [u8]) -> u32
@@ -18,12 +18,13 @@ pub fn finish(r: Reply, image: &mut [u8]) -> u32
     answers::result(a)
 }
 
-// The same for a block move: Done, with the number moved as its value.
-pub fn moved(m: Moved, image: &mut [u8]) -> u32
-    ensures { λ n. ⌜ (n ≡ result (Answer.Done (m .number))) × (now (image .exit) ≡ pick (eqb (length (now (image .entry))) imageLength) (imageOf (m .state)) (now (image .entry))) ⌝ }
+// The same for a Request: at most one byte came into the FIFO, so of its places that one's alone is stored.
+pub fn finish_on(r: Reply, image: &mut [u8]) -> u32
+    ensures { λ n. ⌜ (n ≡ result (r .answer)) × (now (image .exit) ≡ pick (eqb (length (now (image .entry))) imageLength)
+        (take fifoPlace (imageOf (r .state)) ++ endsOver (r .state .fifo) (drop fifoPlace (now (image .entry)))) (now (image .entry))) ⌝ }
 {
-    let s = m.state;
-    let number = m.number;
-    image::write(s, image);
-    answers::result(Answer::Done(number))
+    let s = r.state;
+    let a = r.answer;
+    image::write_on(s, image);
+    answers::result(a)
 }

@@ -1,24 +1,19 @@
 // Calls made in the image itself: those that room moves names store only the bytes that change. Every other call is made on the
 // state, and the whole image is written.
-ghost use lib.Dec.{eqb};
 ghost use Prim.Native.Nat.{_-_, _%_, _≤_};
 ghost use mathlib.Core.Bool.{false, true};
-ghost use mathlib.Core.List.{_++_};
-ghost use lib.ListN.{length, take};
 ghost use mathlib.Core.Path.{_≡_};
 ghost use Rattle.chip.specs.Calls.{isSet};
 ghost use Rattle.chip.specs.Choice.{pick};
-ghost use Rattle.chip.specs.Entries.{result};
 ghost use Rattle.chip.specs.Events.{passed, requested, reselected};
-ghost use Rattle.chip.specs.Fifo.{fifoBytes, hasRoom, isEmpty};
-ghost use Rattle.chip.specs.Image.{fifoPlace, imageLength, stateOf};
+ghost use Rattle.chip.specs.Fifo.{hasRoom, isEmpty};
+ghost use Rattle.chip.specs.Image.{stateOf};
 ghost use Rattle.chip.specs.Phases.{phaseOf};
 ghost use Rattle.chip.specs.Registers.{accessed, auxiliaryRead, blockRead, blockWritten, pointerRead, pointerSet};
 ghost use Rattle.controller.specs.Returns.{Returns, ReturnsMoved};
 ghost use Rattle.image.specs.IsImage.{IsImage};
 ghost use Rattle.chip.specs.Moves.{isPlain, readsData, sendsData, takesData};
 use crate::finish;
-use blocks::Moved;
 use bus::request;
 use bus::reselection;
 use bus::time;
@@ -26,6 +21,7 @@ use chip::Answer;
 use chip::Phase;
 use chip::State;
 use image::store;
+use image::waiting;
 
 pub(crate) fn pointer(mark: u32, byte: u8, image: &mut [u8]) -> u32
     requires { ⌜ IsImage (now image) ⌝ }
@@ -72,15 +68,18 @@ fn plain_written(byte: u8, image: &mut [u8]) -> u32
     0
 }
 
-// The oldest byte of the FIFO, for the host.
+// The oldest byte of the FIFO, for the host. The last one of an ending lets it settle.
 fn data_read(image: &mut [u8]) -> u32
     requires { ⌜ IsImage (now image) × (readsData (stateOf (now image)) ≡ true) ⌝ }
     ensures { λ r. ⌜ Returns (accessed false 0 (stateOf (now (image .entry)))) r (now (image .exit)) ⌝ }
 {
     let s = image::state(image);
-    let q = s.fifo;
-    store::fifo(fifo::pop(q), image);
-    256 * (fifo::front(q) as u32)
+    let value = waiting::front(image);
+    waiting::pop(image);
+    if interrupts::in_ending(s) {
+        blocks::settle(image);
+    }
+    256 * (value as u32)
 }
 
 // The long ways. tools/native-lib keeps them out of the entries' own code, which then needs few registers.
@@ -107,7 +106,7 @@ fn request_whole(phase: u8, byte: u8, bad: bool, image: &mut [u8]) -> u32
 {
     let s = image::state(image);
     let p = phases::phase_of(phase);
-    finish::finish(request::requested(p, byte, bad, s), image)
+    finish::finish_on(request::requested(p, byte, bad, s), image)
 }
 
 pub(crate) fn register_read(image: &mut [u8]) -> u32
@@ -121,6 +120,9 @@ pub(crate) fn register_read(image: &mut [u8]) -> u32
     if moves::reads_data(s) {
         return data_read(image);
     }
+    if moves::is_at_data(s) {
+        return answers::result(Answer::NoDataNow);
+    }
     read_whole(image)
 }
 
@@ -133,8 +135,11 @@ pub(crate) fn register_written(byte: u8, image: &mut [u8]) -> u32
         return plain_written(byte, image);
     }
     if moves::writes_data(s) {
-        store::newest(byte, image);
+        waiting::push(byte, image);
         return 0;
+    }
+    if moves::is_at_data(s) {
+        return answers::result(Answer::NoDataNow);
     }
     written_whole(byte, image)
 }
@@ -154,7 +159,7 @@ fn byte_taken(byte: u8, image: &mut [u8]) -> u32
 {
     let s = image::state(image);
     let low = low_after(s);
-    store::newest(byte, image);
+    waiting::push(byte, image);
     store::count_low(low, image);
     store::last(2, image);
     256 * (byte as u32)
@@ -166,12 +171,12 @@ fn byte_sent(byte: u8, bad: bool, image: &mut [u8]) -> u32
     ensures { λ r. ⌜ Returns (requested Phase.DataOut byte bad (stateOf (now (image .entry)))) r (now (image .exit)) ⌝ }
 {
     let s = image::state(image);
-    let q = s.fifo;
     let low = low_after(s);
-    store::fifo(fifo::pop(q), image);
+    let value = waiting::front(image);
+    waiting::pop(image);
     store::count_low(low, image);
     store::last(1, image);
-    256 * (fifo::front(q) as u32)
+    256 * (value as u32)
 }
 
 // A Request of Data In with good parity.
@@ -220,31 +225,17 @@ pub(crate) fn request(phase: u8, byte: u8, bad: bool, image: &mut [u8]) -> u32
     request_whole(phase, byte, bad, image)
 }
 
-// A block moved, of which the FIFO alone keeps a mark.
-fn fifo_moved(m: Moved, image: &mut [u8]) -> u32
-    ensures { λ n. ⌜ (n ≡ result (Answer.Done (m .number)))
-        × (now (image .exit) ≡ pick (eqb (length (now (image .entry))) imageLength) (take fifoPlace (now (image .entry)) ++ fifoBytes (m .state .fifo)) (now (image .entry))) ⌝ }
-{
-    let s = m.state;
-    let q = s.fifo;
-    let number = m.number;
-    store::fifo(q, image);
-    answers::result(Answer::Done(number))
-}
-
-// A block move. Only where an ending is under way can more than the FIFO change.
+// A block move.
 pub(crate) fn block(mark: u32, bytes: &mut [u8], image: &mut [u8]) -> u32
     requires { ⌜ IsImage (now image) ⌝ }
     ensures { λ r. ⌜ ReturnsMoved (pick (isSet mark) (blockWritten (now (bytes .entry)) (stateOf (now (image .entry)))) (blockRead (now (bytes .entry)) (stateOf (now (image .entry))))) r (now (image .exit)) (now (bytes .exit)) ⌝ }
 {
-    let s = image::state(image);
     if mark == 1 {
-        return fifo_moved(blocks::block_written(s, bytes), image);
+        let number = blocks::block_written(image, bytes);
+        return answers::result(Answer::Done(number));
     }
-    if interrupts::in_ending(s) {
-        return finish::moved(blocks::block_read(s, bytes), image);
-    }
-    fifo_moved(blocks::block_read(s, bytes), image)
+    let number = blocks::block_read(image, bytes);
+    answers::result(Answer::Done(number))
 }
 
 // Time counts only where a selection runs.

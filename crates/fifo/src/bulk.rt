@@ -1,32 +1,37 @@
-// Many bytes at once: as many as a slice and the FIFO let through, into the slice or out of it (specs/Bulk.antt).
+// Many bytes at once: as many as a slice and the FIFO let through, into the slice or out of it (specs/Bulk.antt). Each goes straight
+// between the slice and its place in the image, and the ends are stored once, after the last.
 ghost use mathlib.Core.Path.{_≡_};
-ghost use Rattle.chip.specs.Choice.{both};
-ghost use Rattle.fifo.specs.Bulk.{drained, filled};
 ghost use lib.Dec.{ltb};
-use chip::Fifo;
+ghost use Rattle.chip.specs.Choice.{both};
+ghost use Rattle.fifo.specs.Part.{partDrained, partFilled};
+use crate::part;
 
-// The number of bytes moved, and the FIFO then.
-pub struct Bulk {
-    pub moved: u8,
-    pub fifo: Fifo,
-}
-
-pub fn drain(q: Fifo, out: &mut [u8]) -> Bulk
-    ensures { λ r. ⌜ (r .moved ≡ drained (now (out .entry)) q .moved) × (r .fifo ≡ drained (now (out .entry)) q .fifo) × (now (out .exit) ≡ drained (now (out .entry)) q .bytes) ⌝ }
+pub fn drain(part: &mut [u8], out: &mut [u8]) -> u8
+    ensures { λ r. ⌜ (r ≡ partDrained (now (out .entry)) (now (part .entry)) .moved)
+        × (now (part .exit) ≡ partDrained (now (out .entry)) (now (part .entry)) .part)
+        × (now (out .exit) ≡ partDrained (now (out .entry)) (now (part .entry)) .bytes) ⌝ }
 {
-    let mut t = q;
-    let mut i = 0;
-    while i < out.len() {
-        if crate::is_empty(t) {
-            let moved = i as u8;
-            return Bulk { moved, fifo: t };
+    if part::is_fifo(part) {
+        let mut first = part[1];
+        let mut held = part[0];
+        let mut i = 0;
+        while i < out.len() {
+            if held == 0 {
+                part[0] = held;
+                part[1] = first;
+                return i as u8;
+            }
+            let at = 2 + (first as usize);
+            out[i] = part[at];
+            first = crate::round((first as u32) + 1);
+            held -= 1;
+            i += 1;
         }
-        out[i] = crate::front(t);
-        t = crate::pop(t);
-        i += 1;
+        part[0] = held;
+        part[1] = first;
+        return i as u8;
     }
-    let moved = i as u8;
-    Bulk { moved, fifo: t }
+    0
 }
 
 // A FIFO in which held bytes wait takes another.
@@ -39,26 +44,27 @@ fn takes(n: u32, held: u8) -> bool
     false
 }
 
-// The loop goes over the FIFO's bytes and their number apart: a FIFO made anew each turn would be copied each turn.
-pub fn fill(n: u32, q: Fifo, from: &[u8]) -> Bulk
-    ensures { λ r. ⌜ (r .moved ≡ filled n (now (from .entry)) q .moved) × (r .fifo ≡ filled n (now (from .entry)) q .fifo) ⌝ }
+pub fn fill(n: u32, part: &mut [u8], from: &[u8]) -> u8
+    ensures { λ r. ⌜ (r ≡ partFilled n (now (from .entry)) (now (part .entry)) .moved)
+        × (now (part .exit) ≡ partFilled n (now (from .entry)) (now (part .entry)) .part) ⌝ }
 {
-    let mut bytes = q.bytes;
-    let mut held = q.held;
-    let mut i = 0;
-    while i < from.len() {
-        if takes(n, held) {
-            let at = held as usize;
-            bytes[at] = from[i];
-            held += 1;
-            i += 1;
-        } else {
-            let moved = i as u8;
-            let fifo = Fifo { bytes, held };
-            return Bulk { moved, fifo };
+    if part::is_fifo(part) {
+        let first = part[1] as u32;
+        let mut held = part[0];
+        let mut i = 0;
+        while i < from.len() {
+            if takes(n, held) {
+                let at = 2 + (crate::round(first + (held as u32)) as usize);
+                part[at] = from[i];
+                held += 1;
+                i += 1;
+            } else {
+                part[0] = held;
+                return i as u8;
+            }
         }
+        part[0] = held;
+        return i as u8;
     }
-    let moved = i as u8;
-    let fifo = Fifo { bytes, held };
-    Bulk { moved, fifo }
+    0
 }

@@ -1,12 +1,25 @@
 // The FIFO of 12 bytes: the only code that knows how they are kept. Each function is the definition of the same name in chip's
 // specs/Fifo.antt.
 pub mod part; // part.rt: the FIFO's part of the image
-pub mod bulk; // bulk.rt: many bytes at once
+pub mod bulk; // bulk.rt: many bytes at once, in that part
 
 ghost use mathlib.Core.Bool.{not};
 ghost use mathlib.Core.Path.{_≡_};
-ghost use Rattle.chip.specs.Fifo.{empty, isEmpty, hasRoom, front, pop, push, waits};
+ghost use Rattle.chip.specs.Fifo.{empty, emptied, isEmpty, hasRoom, front, pop, push, round, waits};
 use chip::Fifo;
+
+// The place of a number: the twelve go round.
+pub(crate) fn round(n: u32) -> u8
+    ensures { λ r. ⌜ r ≡ round n ⌝ }
+{
+    if n < 12 {
+        return n as u8;
+    }
+    if n < 24 {
+        return (n - 12) as u8;
+    }
+    0
+}
 
 // Nothing waits.
 pub fn empty() -> Fifo
@@ -14,6 +27,18 @@ pub fn empty() -> Fifo
 {
     Fifo {
         bytes: [0u8; 12],
+        first: 0,
+        held: 0,
+    }
+}
+
+// What waited is dropped.
+pub fn emptied(q: Fifo) -> Fifo
+    ensures { λ r. ⌜ r ≡ emptied q ⌝ }
+{
+    Fifo {
+        bytes: q.bytes,
+        first: 0,
         held: 0,
     }
 }
@@ -46,10 +71,18 @@ pub fn has_room(q: Fifo) -> bool
     q.held < 12
 }
 
+// Of a FIFO whose oldest byte has none of the twelve places, 0: no image says one.
 pub fn front(q: Fifo) -> u8
     ensures { λ r. ⌜ r ≡ front q ⌝ }
 {
-    q.bytes[0]
+    if q.held == 0 {
+        return 0;
+    }
+    if q.first < 12 {
+        let at = q.first as usize;
+        return q.bytes[at];
+    }
+    0
 }
 
 pub fn pop(q: Fifo) -> Fifo
@@ -59,23 +92,10 @@ pub fn pop(q: Fifo) -> Fifo
     if held == 0 {
         return q;
     }
-    let f = q.bytes;
-    let bytes = [
-        f[1],
-        f[2],
-        f[3],
-        f[4],
-        f[5],
-        f[6],
-        f[7],
-        f[8],
-        f[9],
-        f[10],
-        f[11],
-        0,
-    ];
+    let first = round((q.first as u32) + 1);
     Fifo {
-        bytes,
+        bytes: q.bytes,
+        first,
         held: held - 1,
     }
 }
@@ -85,11 +105,12 @@ pub fn push(b: u8, q: Fifo) -> Fifo
 {
     let held = q.held;
     if held < 12 {
-        let at = held as usize;
+        let at = round((q.first as u32) + (held as u32)) as usize;
         let mut bytes = q.bytes;
         bytes[at] = b;
         return Fifo {
             bytes,
+            first: q.first,
             held: held + 1,
         };
     }

@@ -1,38 +1,20 @@
-// The FIFO's part of the image: how many bytes wait, then the twelve places (chip's fifoBytes). Bytes of another length are no FIFO's, and
-// stay as they are.
+// The FIFO's part of the image: how many bytes wait, the place of the oldest, then the twelve places (chip's fifoBytes). A byte that comes
+// or goes is stored there with the ends, and no other place is. Bytes that are no FIFO's stay as they are.
 ghost use mathlib.Core.Path.{_≡_};
 ghost use lib.Dec.{eqb};
-ghost use lib.ListN.{length, drop};
-ghost use Rattle.chip.specs.Choice.{both, pick};
-ghost use Rattle.chip.specs.Fifo.{areZero, empty, fifoBytes, fifoLength, fifoOf, isFifo, newestIn};
+ghost use lib.ListN.{length};
+ghost use Rattle.chip.specs.Choice.{pick};
+ghost use Rattle.chip.specs.Fifo.{empty, endsOver, fifoBytes, fifoLength, fifoOf, front, pop, push};
+ghost use Rattle.fifo.specs.Part.{isPart};
 use chip::Fifo;
 
-const LENGTH: usize = 13;
-
-// No turn leaves early, so that a loop of known length becomes straight code.
-fn are_zero(s: &[u8], from: usize) -> bool
-    ensures { λ r. ⌜ r ≡ areZero (drop from (now (s .entry))) ⌝ }
-{
-    let mut x = 0u8;
-    let mut i = 0;
-    while i < s.len() {
-        if from <= i {
-            x = x | s[i];
-        }
-        i += 1;
-    }
-    x == 0
-}
+const LENGTH: usize = 14;
 
 pub fn is_fifo(part: &[u8]) -> bool
-    ensures { λ r. ⌜ r ≡ both (eqb (length (now (part .entry))) fifoLength) (isFifo (now (part .entry))) ⌝ }
+    ensures { λ r. ⌜ r ≡ isPart (now (part .entry)) ⌝ }
 {
     if part.len() == LENGTH {
-        if part[0] < 13 {
-            let held = part[0] as usize;
-            return are_zero(&part[1..LENGTH], held);
-        }
-        return false;
+        return (part[0] < 13) & (part[1] < 12);
     }
     false
 }
@@ -42,9 +24,10 @@ pub fn get(part: &[u8]) -> Fifo
 {
     if part.len() == LENGTH {
         let mut places = [0u8; 12];
-        bytes::copy(&part[1..LENGTH], &mut places);
+        bytes::copy(&part[2..LENGTH], &mut places);
         return Fifo {
             bytes: places,
+            first: part[1],
             held: part[0],
         };
     }
@@ -56,19 +39,61 @@ pub fn put(q: Fifo, part: &mut [u8])
 {
     if part.len() == LENGTH {
         let places = q.bytes;
-        bytes::copy(&places, &mut part[1..LENGTH]);
+        bytes::copy(&places, &mut part[2..LENGTH]);
         part[0] = q.held;
+        part[1] = q.first;
+    }
+}
+
+// The ends and the newest byte: what a FIFO differs in from the one before, where at most one byte came.
+pub fn put_ends(q: Fifo, part: &mut [u8])
+    ensures { λ _. ⌜ now (part .exit) ≡ pick (eqb (length (now (part .entry))) fifoLength) (endsOver q (now (part .entry))) (now (part .entry)) ⌝ }
+{
+    if part.len() == LENGTH {
+        part[0] = q.held;
+        part[1] = q.first;
+        if q.held != 0 {
+            let at = crate::round((q.first as u32) + (q.held as u32) - 1) as usize;
+            part[2 + at] = q.bytes[at];
+        }
+    }
+}
+
+// The oldest byte.
+pub fn front(part: &[u8]) -> u8
+    ensures { λ r. ⌜ r ≡ pick (isPart (now (part .entry))) (front (fifoOf (now (part .entry)))) 0 ⌝ }
+{
+    if is_fifo(part) {
+        if part[0] == 0 {
+            return 0;
+        }
+        let at = 2 + (part[1] as usize);
+        return part[at];
+    }
+    0
+}
+
+// The oldest byte goes.
+pub fn pop(part: &mut [u8])
+    ensures { λ _. ⌜ now (part .exit) ≡ pick (isPart (now (part .entry))) (fifoBytes (pop (fifoOf (now (part .entry))))) (now (part .entry)) ⌝ }
+{
+    if is_fifo(part) {
+        let held = part[0];
+        if held != 0 {
+            part[1] = crate::round((part[1] as u32) + 1);
+            part[0] = held - 1;
+        }
     }
 }
 
 // One byte more waits, where there is room.
-pub fn newest(b: u8, part: &mut [u8])
-    ensures { λ _. ⌜ now (part .exit) ≡ pick (eqb (length (now (part .entry))) fifoLength) (newestIn b (now (part .entry))) (now (part .entry)) ⌝ }
+pub fn push(b: u8, part: &mut [u8])
+    ensures { λ _. ⌜ now (part .exit) ≡ pick (isPart (now (part .entry))) (fifoBytes (push b (fifoOf (now (part .entry))))) (now (part .entry)) ⌝ }
 {
-    if part.len() == LENGTH {
+    if is_fifo(part) {
         let held = part[0];
         if held < 12 {
-            let at = 1 + (held as usize);
+            let at = 2 + (crate::round((part[1] as u32) + (held as u32)) as usize);
             part[at] = b;
             part[0] = held + 1;
         }

@@ -1,2 +1,3 @@
 pub mod IsImage
 pub mod Read
+pub mod Waiting

@@ -3,21 +3,25 @@ mod cases; // cases.rt: the bytes that stand for cases
 mod copy; // copy.rt: several bytes, copied
 mod parts; // parts.rt: the parts of a state, out of an image and into it
 pub mod store; // store.rt: one field's change, made in the image itself
+pub mod waiting; // waiting.rt: the FIFO's bytes, moved in the image itself
 
 use chip::State;
 use fifo::part;
 use parts::put_image;
+use parts::put_others;
 use parts::state_of;
 use state::activity;
 use state::connections;
 use state::fresh;
 ghost use mathlib.Core.Path.{_≡_};
 ghost use lib.Dec.{eqb};
-ghost use lib.ListN.{length};
+ghost use mathlib.Core.List.{_++_};
+ghost use lib.ListN.{length, take, drop};
+ghost use Rattle.chip.specs.Fifo.{endsOver};
 ghost use Rattle.chip.specs.Choice.{pick};
 ghost use Rattle.chip.specs.State.{fresh};
 ghost use Rattle.chip.specs.Activity.{goWith, isActivity};
-ghost use Rattle.chip.specs.Image.{imageLength, isImage, imageOf, stateOf};
+ghost use Rattle.chip.specs.Image.{fifoPlace, imageLength, isImage, imageOf, stateOf};
 ghost use Rattle.image.specs.IsImage.{IsImage};
 ghost use mathlib.Core.Bool.{true};
 ghost use Rattle.image.specs.Read.{readOf};
@@ -29,7 +33,7 @@ pub struct Reading {
 }
 
 // How many bytes an image has.
-pub const LENGTH: usize = 53;
+pub const LENGTH: usize = 54;
 
 // Where the FIFO's bytes begin.
 const FIFO: usize = 40;
@@ -115,5 +119,17 @@ pub fn write(s: State, image: &mut [u8])
 {
     if image.len() == LENGTH {
         put_image(s, image);
+    }
+}
+
+// The state that a call led to from the image's own. Of the FIFO it stores the ends and the newest byte: at most that one came.
+pub fn write_on(s: State, image: &mut [u8])
+    ensures { λ _. ⌜ now (image .exit) ≡ pick (eqb (length (now (image .entry))) imageLength)
+        (take fifoPlace (imageOf s) ++ endsOver (s .fifo) (drop fifoPlace (now (image .entry)))) (now (image .entry)) ⌝ }
+{
+    let q = s.fifo;
+    if image.len() == LENGTH {
+        put_others(s, image);
+        store::ends(q, image);
     }
 }

@@ -25,10 +25,11 @@ use fifo::part;
 use state::activity;
 use state::connections;
 ghost use mathlib.Core.Path.{_≡_};
+ghost use mathlib.Core.List.{_++_};
 ghost use Prim.Native.Nat.{_+_, _*_, _/_, _%_};
 ghost use lib.ListN.{length, take, drop};
 ghost use lib.Seq.{sets};
-ghost use Rattle.chip.specs.Image.{imageLength, stateOf, headBytes, middleBytes, imageOf};
+ghost use Rattle.chip.specs.Image.{fifoPlace, imageLength, stateOf, headBytes, middleBytes, imageOf};
 
 // The three bytes of a count, high byte first.
 fn count_of(high: u8, middle: u8, low: u8) -> u32
@@ -229,16 +230,24 @@ fn put_middle(s: State, image: &mut [u8])
     put_rest(s, image);
 }
 
-pub(crate) fn put_image(s: State, image: &mut [u8])
+// Bytes 0 to 39: all but the FIFO's.
+pub(crate) fn put_others(s: State, image: &mut [u8])
     requires { ⌜ length (now image) ≡ imageLength ⌝ }
-    ensures { λ _. ⌜ now (image .exit) ≡ imageOf s ⌝ }
+    ensures { λ _. ⌜ now (image .exit) ≡ take fifoPlace (imageOf s) ++ drop fifoPlace (now (image .entry)) ⌝ }
 {
     let registers = s.registers;
     let descriptor = registers.descriptor;
     let cdb = descriptor.cdb;
-    let q = s.fifo;
     put_head(s, image);
     put(&cdb, 3, image);
     put_middle(s, image);
+}
+
+pub(crate) fn put_image(s: State, image: &mut [u8])
+    requires { ⌜ length (now image) ≡ imageLength ⌝ }
+    ensures { λ _. ⌜ now (image .exit) ≡ imageOf s ⌝ }
+{
+    let q = s.fifo;
+    put_others(s, image);
     store::fifo(q, image);
 }

@@ -10,7 +10,7 @@ ghost use mathlib.Core.List.{_++_};
 ghost use lib.Dec.{eqb, ltb};
 ghost use lib.ListN.{length, set, take, drop};
 ghost use Rattle.chip.specs.Choice.{pick, both};
-ghost use Rattle.chip.specs.Fifo.{fifoBytes, newestIn};
+ghost use Rattle.chip.specs.Fifo.{endsOver, fifoBytes};
 ghost use Rattle.chip.specs.Image.{imageLength, fifoPlace};
 
 pub fn pointer(b: u8, image: &mut [u8])
@@ -51,21 +51,22 @@ pub fn last(b: u8, image: &mut [u8])
     }
 }
 
-// One byte more waits in the FIFO, where there is room.
-pub fn newest(b: u8, image: &mut [u8])
-    ensures { λ _. ⌜ now (image .exit) ≡ pick (eqb (length (now (image .entry))) imageLength)
-        (take fifoPlace (now (image .entry)) ++ newestIn b (drop fifoPlace (now (image .entry)))) (now (image .entry)) ⌝ }
-{
-    if image.len() == LENGTH {
-        part::newest(b, &mut image[FIFO..LENGTH]);
-    }
-}
-
+// The whole FIFO.
 pub fn fifo(q: Fifo, image: &mut [u8])
     ensures { λ _. ⌜ now (image .exit) ≡ pick (eqb (length (now (image .entry))) imageLength)
         (take fifoPlace (now (image .entry)) ++ fifoBytes q) (now (image .entry)) ⌝ }
 {
     if image.len() == LENGTH {
         part::put(q, &mut image[FIFO..LENGTH]);
+    }
+}
+
+// The ends of the FIFO and its newest byte.
+pub fn ends(q: Fifo, image: &mut [u8])
+    ensures { λ _. ⌜ now (image .exit) ≡ pick (eqb (length (now (image .entry))) imageLength)
+        (take fifoPlace (now (image .entry)) ++ endsOver q (drop fifoPlace (now (image .entry)))) (now (image .entry)) ⌝ }
+{
+    if image.len() == LENGTH {
+        part::put_ends(q, &mut image[FIFO..LENGTH]);
     }
 }

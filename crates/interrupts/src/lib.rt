@@ -40,7 +40,7 @@ fn without_outgoing(d: Direction, q: Fifo) -> Fifo
     match d {
         Direction::Unfixed => q,
         Direction::In => q,
-        Direction::Out => fifo::empty(),
+        Direction::Out => fifo::emptied(q),
     }
 }
 

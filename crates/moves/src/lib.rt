@@ -1,7 +1,7 @@
 // Which calls move a byte and do nothing else, so that only some bytes of the image need be stored: the tests of chip's
 // specs/Moves.antt. What each call then comes to is in chip's proofs/Moves.antt.
 ghost use Prim.Native.Nat.{_%_};
-ghost use lib.Dec.{leb};
+ghost use lib.Dec.{eqb, leb};
 ghost use mathlib.Core.Bool.{not};
 ghost use mathlib.Core.Path.{_≡_};
 ghost use Rattle.chip.specs.Choice.{both};
@@ -33,14 +33,18 @@ pub fn is_plain(s: State) -> bool
     false
 }
 
-// A read of the Data register takes a byte, and lets no ending come.
+// The next register access is one of the Data register.
+pub fn is_at_data(s: State) -> bool
+    ensures { λ r. ⌜ r ≡ eqb (s .status .pointer) 0x19 ⌝ }
+{
+    s.status.pointer == 0x19
+}
+
+// A read of the Data register takes a byte.
 pub fn reads_data(s: State) -> bool
     ensures { λ r. ⌜ r ≡ readsData s ⌝ }
 {
     if s.status.pointer == 0x19 {
-        if interrupts::in_ending(s) {
-            return false;
-        }
         return interrupts::bytes_unread(s);
     }
     false

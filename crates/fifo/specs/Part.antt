@@ -1,0 +1,31 @@
+-- The FIFO's part of the image: many bytes moved in it at once. Bytes that are no FIFO's move nothing.
+use mathlib.Core.Bool.{Bool}
+use mathlib.Core.List.{List}
+use Prim.Native.Nat.{ℕ}
+use lib.Dec.{eqb}
+use lib.ListN.{length}
+use Rattle.chip.specs.Choice.{pick, both}
+use Rattle.chip.specs.Fifo.{fifoBytes, fifoLength, fifoOf, isFifo}
+use Rattle.fifo.specs.Bulk.{Bulk, drained, filled}
+
+-- bytes that are a FIFO's
+unfoldable pub isPart : List ℕ → Bool
+isPart p = both (eqb (length p) fifoLength) (isFifo p)
+
+-- how many bytes moved, the part then, and the slice then
+pub record PartMoved : Type 0 where
+  pub moved : ℕ
+  pub part : List ℕ
+  pub bytes : List ℕ
+
+abbrev pub inPart : Bulk → PartMoved
+inPart r = record { moved = r .moved; part = fifoBytes (r .fifo); bytes = r .bytes }
+
+abbrev pub unmoved : List ℕ → List ℕ → PartMoved
+unmoved l p = record { moved = 0; part = p; bytes = l }
+
+unfoldable pub partDrained : List ℕ → List ℕ → PartMoved
+partDrained l p = pick (isPart p) (inPart (drained l (fifoOf p))) (unmoved l p)
+
+unfoldable pub partFilled : ℕ → List ℕ → List ℕ → PartMoved
+partFilled n l p = pick (isPart p) (inPart (filled n l (fifoOf p))) (unmoved l p)

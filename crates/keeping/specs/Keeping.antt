@@ -1,0 +1,63 @@
+-- Where the FIFO's bytes stand is told to nobody. Paper 02, Req 03: "Keep them where they are and let the ends travel. Nothing that a
+-- caller is told changes."
+--   SameBytes        two FIFOs in which the same bytes wait, in places of their own
+--   Alike            two states that differ in nothing but how the FIFO keeps its bytes
+--   TellsNoPlaces    a step's law: two alike states are told alike, and stay alike
+--   told, toldBy     what a caller is told by a call, and by a list of calls
+--   AnyKeeping       a step's law: however the bytes are moved about between the calls, the caller is told the same
+--   AsBefore         a step's law: the caller is told what the controller told over the old keeping (chip's specs/Before.antt)
+use mathlib.Core.Path.{_≡_}
+use mathlib.Core.List.{List, [], _∷_}
+use Prim.Native.Nat.{ℕ}
+use Rattle.chip.specs.Before.{movedUp}
+use Rattle.chip.specs.Calls.{Call, Outcome, step}
+use Rattle.chip.specs.Entries.{lineBits}
+use Rattle.chip.specs.Fifo.{waiting, Whole}
+use Rattle.chip.specs.State.{fresh, setFifo}
+use Rattle.chip.specs.declared.Answer.{Answer}
+use Rattle.chip.specs.declared.Fifo.{Fifo}
+use Rattle.chip.specs.declared.State.{State}
+
+pub record SameBytes (q r : Fifo) : Type 0 where
+  pub left : Whole q
+  pub right : Whole r
+  pub bytes : waiting q ≡ waiting r
+
+pub record Alike (s t : State) : Type 0 where
+  pub rest : setFifo (t .fifo) s ≡ t
+  pub fifo : SameBytes (s .fifo) (t .fifo)
+
+-- the answer, with its value, and the lent slice
+pub record Told : Type 0 where
+  pub answer : Answer
+  pub lent : List ℕ
+
+abbrev pub told : Outcome → Told
+told o = record { answer = o .answer; lent = o .lent }
+
+pub record TellsNoPlaces (f : Call → State → Outcome) : Type 0 where
+  pub tells : (c : Call) (s t : State) → Alike s t → told (f c s) ≡ told (f c t)
+  pub leads : (c : Call) (s t : State) → Alike s t → Alike (f c s .state) (f c t .state)
+
+-- what the calls of a list tell, one after the other
+unfoldable pub toldBy : (Call → State → Outcome) → List Call → State → List Told
+toldBy f [] s = []
+toldBy f (c ∷ l) s = told (f c s) ∷ toldBy f l (f c s .state)
+
+-- a step after which k moves the FIFO's bytes about in their places
+abbrev pub keptBy : (Fifo → Fifo) → (Call → State → Outcome) → Call → State → Outcome
+keptBy k f c s =
+    record { answer = f c s .answer; state = setFifo (k (f c s .state .fifo)) (f c s .state); lent = f c s .lent }
+
+-- from two alike states, by any list of calls, whatever moves the bytes about on one side
+abbrev pub AnyKeeping : (Call → State → Outcome) → Type 0
+AnyKeeping f =
+    (k : Fifo → Fifo) → ((q : Fifo) → Whole q → SameBytes q (k q)) → (l : List Call) (s t : State) → Alike s t
+    → toldBy f l s ≡ toldBy (keptBy k f) l t
+
+-- the controller's step as it was before: the bytes move up at every call
+abbrev pub stepBefore : Call → State → Outcome
+stepBefore = keptBy movedUp step
+
+abbrev pub AsBefore : (Call → State → Outcome) → Type 0
+AsBefore f = (l : List Call) → toldBy f l fresh ≡ toldBy stepBefore l fresh
