@@ -17,7 +17,7 @@ unfoldable pub everything : Unit {0}
 unfolding Choice.pick Choice.both Choice.either Phases.phaseOf Lines.isOn Lines.packed Lines.hsp Lines.idi Lines.withIdi
     Lines.er Lines.isSingle Lines.codeOf Lines.ownIdentity Lines.destination Lines.sameIdentity Lines.lunOf
     Lines.identify Lines.lineOf Lines.ones Lines.qualifies Lines.areTwo Lines.lowest Lines.without
-    Lines.otherIdentity Lines.sourceAfter Fifo.waiting Fifo.round Fifo.isEmpty Fifo.hasRoom Fifo.front Fifo.pop Fifo.waits
+    Lines.otherIdentity Lines.sourceAfter Fifo.waiting Fifo.round Fifo.placeBehind Fifo.isEmpty Fifo.hasRoom Fifo.front Fifo.pop Fifo.waits
     Fifo.push Count.left Count.noneLeft Count.isLast Count.lowered Count.loaded Count.meansOne Count.loadedForTransferInfo
     Interrupts.busy Interrupts.outgoingDropped Interrupts.raise Interrupts.bytesUnread Interrupts.endingWith
     Interrupts.settledBy Interrupts.settled Interrupts.unlessInterrupt Count.dbr TransferInfo.halted

@@ -4,6 +4,7 @@
 --   waits-some some-waits none-waits waits-none push-some   whether any waits
 --   waits-below room-below   at most 12 wait, fewer where there is room
 --   fifo-length fifo-back fifo-valid bytes-back fifo-ok   its bytes in the image
+--   goes-over   what is stored of it after a step that touches one place at most
 use mathlib.Core.Path.{_≡_, refl, ap, sym, _∙_}
 use mathlib.Core.Bool.{true, false}
 use mathlib.Core.List.{List, [], _∷_, _++_, append-assoc, append-nil}
@@ -13,11 +14,11 @@ use native.Mathlib.Numerals.{add-one}
 use native.Mathlib.Omega.{arith}
 use lib.Dec.{eqb, ltb}
 use lib.ListN.{length, take, drop, getD, set, length-append, length-drop, length-set, drop-of-length-le, List·getD-append}
-use lib.Seq.{drop-cons, drop-set-lt, drop-set-add, getD-drop, getD-take, length-take-le, take-all, take-append-le, take-nil, take-set-le, take-set-lt, take-suc, take-suc-set, set-append-left}
+use lib.Seq.{drop-cons, drop-set-lt, drop-set-add, getD-drop, getD-take, length-take-le, take-all, take-append-le, take-nil, take-set-le, take-set-lt, take-suc, take-suc-set, set-append-left, set-getD, getD-set-same}
 use borrow.Author.Tests.{ltb-true, ltb-false, lt-ltb, le-ltb, eqb-false, eqb-true, ne-eqb}
 use Rattle.chip.specs.Choice.{pick, both}
 use Rattle.chip.specs.Queue as Queue
-use Rattle.chip.specs.Fifo.{inOrder, waiting, round, empty, emptied, isEmpty, hasRoom, waits, front, pop, push, fifoBytes, fifoOf, isFifo, Whole, KeepsBytes}
+use Rattle.chip.specs.Fifo.{inOrder, waiting, round, placeBehind, empty, emptied, isEmpty, hasRoom, waits, front, pop, push, fifoBytes, fifoOf, endsOver, isFifo, Whole, Goes, stays, loses, gets, drops, gets-and-drops, KeepsBytes}
 use Rattle.chip.specs.declared.Fifo.{Fifo}
 use Rattle.chip.proofs.Cases.{by-pick, by-case, by-test, both-first, both-second, taken, passed-over}
 
@@ -83,6 +84,10 @@ round-below n =
     by-case (λ (x : ℕ). x < 12) _ (λ e. ltb-true n 12 e)
     (λ e. by-case (λ (x : ℕ). x < 12) _ (λ f. omega (arith, ltb-true n 24 f)) (λ f. omega arith))
 
+pub behind-below : (q : Fifo) → placeBehind q < 12
+unfolding placeBehind
+behind-below q = round-below (q .first + q .held)
+
 -- a store behind the seam
 set-behind : (x y : List ℕ) (i b : ℕ) → set (x ++ y) (length x + i) b ≡ x ++ set y i b
 set-behind [] y i b = ap (λ (k : ℕ). set y k b) (zero-add i)
@@ -130,7 +135,8 @@ module _ (q : Fifo) (u : Whole q) where
 
   -- a byte stored behind those that wait
   order-stored : (b : ℕ) → q .held < 12
-      → inOrder (record { bytes = set (q .bytes) (round (q .first + q .held)) b; first = q .first; held = q .held + 1 }) ≡ set (inOrder q) (q .held) b
+      → inOrder (record { bytes = set (q .bytes) (placeBehind q) b; first = q .first; held = q .held + 1 }) ≡ set (inOrder q) (q .held) b
+  unfolding placeBehind
   order-stored b h =
       by-test (ltb (q .first + q .held) 12)
       (λ e.
@@ -218,7 +224,7 @@ module _ (q : Fifo) (u : Whole q) where
       (λ e. ap waiting (passed-over _ _ e) ∙ sym (passed-over _ _ (sym room-is ∙ e)))
     where
       longer : hasRoom q ≡ true
-          → waiting (record { bytes = set (q .bytes) (round (q .first + q .held)) b; first = q .first; held = q .held + 1 }) ≡ waiting q ++ (b ∷ [])
+          → waiting (record { bytes = set (q .bytes) (placeBehind q) b; first = q .first; held = q .held + 1 }) ≡ waiting q ++ (b ∷ [])
       longer e =
           unfold waiting hasRoom in
           let h : q .held < 12 = ltb-true (q .held) 12 e in
@@ -285,3 +291,42 @@ module _ (l : List ℕ) (n : length l ≡ 14) where
         place = ltb-true _ 12 (both-second (ltb (getD l 0 0) 13) _ e);
         few = ltb-true _ 13 (both-first _ _ e);
       }
+
+-- stored over the bytes of another
+
+all-places : (p : Fifo) → Whole p → take 12 (p .bytes) ≡ p .bytes
+all-places p u = take-all 12 (p .bytes) (omega (arith, u .long))
+
+module _ (p : Fifo) (u : Whole p) where
+  -- as it was but for that one place
+  over-one : (q : Fifo) (x : ℕ) → q .bytes ≡ set (p .bytes) (placeBehind p) x → endsOver q (fifoBytes p) ≡ fifoBytes q
+  unfolding endsOver fifoBytes
+  over-one q x e =
+      let at = placeBehind (fifoOf (fifoBytes p)) in
+      let same : fifoOf (fifoBytes p) ≡ p = fifo-back p u in
+      let in-reach : placeBehind p < length (p .bytes) = omega (arith, behind-below p, u .long) in
+      ap (λ (l : List ℕ). q .held ∷ q .first ∷ l)
+      (ap (λ (f : Fifo). set (take 12 (p .bytes)) (placeBehind f) (getD (q .bytes) (placeBehind f) 0)) same
+      ∙ rw (all-places p u, e, getD-set-same (p .bytes) (placeBehind p) x 0 in-reach))
+
+  over-kept : (q : Fifo) → q .bytes ≡ p .bytes → endsOver q (fifoBytes p) ≡ fifoBytes q
+  over-kept q e = over-one q (getD (p .bytes) (placeBehind p) 0) (e ∙ sym (set-getD (p .bytes) (placeBehind p) 0))
+
+  popped-places : pop p .bytes ≡ p .bytes
+  unfolding pop
+  popped-places = by-pick (λ (x : Fifo). x .bytes ≡ p .bytes) _ refl refl
+
+  -- a byte more, in places that are those of q
+  over-pushed : (b : ℕ) (q : Fifo) → q .bytes ≡ push b p .bytes → endsOver q (fifoBytes p) ≡ fifoBytes q
+  unfolding push
+  over-pushed b q e =
+      by-test (hasRoom p)
+      (λ h. over-one q b (e ∙ ap (λ (x : Fifo). x .bytes) (taken _ _ h)))
+      (λ h. over-kept q (e ∙ ap (λ (x : Fifo). x .bytes) (passed-over _ _ h)))
+
+pub goes-over : (p q : Fifo) → Whole p → Goes p q → endsOver q (fifoBytes p) ≡ fifoBytes q
+goes-over p _ u stays = over-kept p u p refl
+goes-over p _ u loses = over-kept p u (pop p) (popped-places p u)
+goes-over p _ u (gets b) = over-pushed p u b (push b p) refl
+goes-over p _ u drops = over-kept p u (emptied p) refl
+goes-over p _ u (gets-and-drops b) = over-pushed p u b (emptied (push b p)) refl

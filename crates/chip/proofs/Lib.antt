@@ -1,5 +1,7 @@
 pub mod Cases
 pub mod FifoLaws
+pub mod Before
+pub mod FifoSteps
 pub mod Numbers
 pub mod Activities
 pub mod Translate

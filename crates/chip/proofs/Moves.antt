@@ -1,5 +1,6 @@
 -- Where a byte moves and nothing else happens, this is what the rules come to.
--- `plain-read`, `plain-write`: an access to one of 00 to 16h. `data-read`, `data-write`: one to the Data register.
+-- `plain-read`, `plain-write`: an access to one of 00 to 16h. `data-read`, `data-write`: one to the Data register; `nothing-read`,
+-- `nothing-written`: one that moves no byte.
 -- `byte-taken`, `byte-sent`: a Request of Data In, of Data Out; `in-held`, `out-held`: with the FIFO full, empty. `write-room`: it has room.
 use mathlib.Core.Path.{_≡_, refl, ap, sym, _∙_}
 use mathlib.Core.Bool.{Bool, true, false, not}
@@ -21,17 +22,17 @@ use Rattle.chip.specs.declared.Phase.{Phase}
 use Rattle.chip.specs.declared.Phase.the-variants.{DataOut, DataIn}
 use Rattle.chip.specs.declared.Noted.the-variants.{Was}
 use Rattle.chip.specs.State.{setPointer, setFifo, setPe, setSingle, setCount, setDirection, setPhase, setLast}
-use Rattle.chip.specs.Answers.{done, held}
+use Rattle.chip.specs.Answers.{done, held, noDataNow}
 use Rattle.chip.specs.Phases.{isNoted}
 use Rattle.chip.specs.Fifo.{isEmpty, hasRoom, front, pop, push}
 use Rattle.chip.specs.Count.{left, noneLeft, isLast, lowered, dbr, dbrBy}
 use Rattle.chip.specs.Connections.{isConnected}
-use Rattle.chip.specs.Interrupts.{busy, inEnding, bytesUnread, isIncoming, settled, settledBy}
+use Rattle.chip.specs.Interrupts.{busy, inEnding, bytesUnread, isIncoming, outgoingDropped, raise, settled, settledBy}
 use Rattle.chip.specs.TransferInfo.{transferInfoRequest, transferInfoOffered, transferInfoTaken, transferInfoSent, takenIn, parityNoted, unlessHalted, atnAfter}
 use Rattle.chip.specs.SelectAndTransfer.{stage, selectAndTransferRequest, requestAt, bodyRequest, unlessNoneLeft, dataIn, dataOut, takeData, sendData, phaseAfter}
 use Rattle.chip.specs.Registers.{accessed, stepped, accessedAt, isBlind, readAt, writtenAt, pointerAfter, registerAt, stored, dataRead, dataReadBy, dataWritten, dataWrittenBy}
 use Rattle.chip.specs.Events.{requested, requestedConnected, requestedRunning, isServed, remembered}
-use Rattle.chip.proofs.Cases.{by-test, taken as picked, passed-over, both-first, both-second}
+use Rattle.chip.proofs.Cases.{by-pick, by-test, taken as picked, passed-over, both-first, both-second}
 use Rattle.chip.specs.Activity.{isEnding, isSelectAndTransfer, isTransferInfo, goesOn}
 use Rattle.chip.proofs.Activities.{going-is-still}
 use Rattle.chip.specs.Interrupts.{isOutgoing}
@@ -106,9 +107,21 @@ quiet-by (Runs r) t e = refl
 quiet-by (Ends r k) t e = cc
 quiet-by (ReadOut r) t e = cc
 
-settled-quiet : (t : State) → inEnding t ≡ false → settled t ≡ t
+pub settled-quiet : (t : State) → inEnding t ≡ false → settled t ≡ t
 unfolding settled
 settled-quiet t e = rw (quiet-by (t .activity) t e) (pick-same _ t)
+
+pointer-by : (a : Activity) (t : State) → settledBy a t .status .pointer ≡ t .status .pointer
+unfolding settledBy raise outgoingDropped
+pointer-by Idle t = refl
+pointer-by Interrupt t = refl
+pointer-by (Runs r) t = refl
+pointer-by (Ends r k) t = refl
+pointer-by (ReadOut r) t = refl
+
+settled-pointer : (t : State) → settled t .status .pointer ≡ t .status .pointer
+unfolding settled
+settled-pointer t = by-pick (λ (x : State). x .status .pointer ≡ t .status .pointer) _ (pointer-by (t .activity) t) refl
 
 incoming-is : (d : Direction) → isIncoming d ≡ true → d ≡ In
 incoming-is Unfixed e = cc
@@ -145,28 +158,65 @@ module _ (s : State) (e : readsData s ≡ true) where
   unfolding readsData
   at-data = eqb-true _ _ (both-first _ _ e)
 
-  quiet : inEnding s ≡ false
-  unfolding readsData
-  quiet = unless _ _ (both-second _ _ e) .0
-
   waits : bytesUnread s ≡ true
   unfolding readsData
-  waits = unless _ _ (both-second _ _ e) .1
+  waits = both-second _ _ e
 
-  taken : dataRead s ≡ done (front (s .fifo)) (setFifo (pop (s .fifo)) s)
+  pub coming-in : s .transfer .direction ≡ In
+  unfolding bytesUnread
+  coming-in = incoming-is _ (both-first _ _ waits)
+
+  taken : dataRead s ≡ done (front (s .fifo)) (settled (setFifo (pop (s .fifo)) s))
   unfolding dataRead dbr bytesUnread
   taken =
-      let d : s .transfer .direction ≡ In = incoming-is _ (both-first _ _ waits) in
       let n : not (isEmpty (s .fifo)) ≡ true = both-second _ _ waits in
-      in-given (s .transfer .direction) s d (in-dbr (s .transfer .direction) s d n)
-      ∙ ap (done (front (s .fifo))) (settled-quiet (setFifo (pop (s .fifo)) s) quiet)
+      in-given (s .transfer .direction) s coming-in (in-dbr (s .transfer .direction) s coming-in n)
 
-  pub data-read : (b : ℕ) → accessed false b s ≡ done (front (s .fifo)) (setFifo (pop (s .fifo)) s)
+  pub data-read : (b : ℕ) → accessed false b s ≡ done (front (s .fifo)) (settled (setFifo (pop (s .fifo)) s))
   unfolding accessed stepped pointerAfter pick either
   data-read b =
       ap (λ (a : ℕ). stepped a (accessedAt a false b s)) at-data
       ∙ ap (stepped 0x19) (at-data-read b s ∙ taken)
-      ∙ ap (done (front (s .fifo))) (pointer-kept 0x19 (setFifo (pop (s .fifo)) s) at-data)
+      ∙ ap (done (front (s .fifo)))
+      (pointer-kept 0x19 (settled (setFifo (pop (s .fifo)) s)) (settled-pointer (setFifo (pop (s .fifo)) s) ∙ at-data))
+
+-- an access at 19h that moves nothing
+
+not-incoming : (d : Direction) (s : State) → both (isIncoming d) (not (isEmpty (s .fifo))) ≡ false → (dbr s ≡ dbrBy d s)
+    → dataReadBy d s ≡ noDataNow s
+unfolding both pick
+not-incoming Unfixed s e h = refl
+not-incoming In s e h = rw (h, e)
+not-incoming Out s e h = refl
+
+not-outgoing : (d : Direction) (b : ℕ) (s : State) → writesBy d s ≡ false → dataWrittenBy d b s ≡ noDataNow s
+unfolding pick
+not-outgoing Unfixed b s e = refl
+not-outgoing In b s e = refl
+not-outgoing Out b s e = rw e
+
+-- where the first of two tests holds and both do not, the second does not
+second-not : (t u : Bool) → both t u ≡ false → t ≡ true → u ≡ false
+unfolding both
+second-not t u e h = rw h at e
+
+module _ (s : State) (e : eqb (s .status .pointer) 0x19 ≡ true) where
+  there : s .status .pointer ≡ 0x19
+  there = eqb-true _ _ e
+
+  pub nothing-read : (b : ℕ) → readsData s ≡ false → accessed false b s ≡ noDataNow s
+  unfolding accessed stepped pointerAfter pick either readsData bytesUnread dataRead dbr
+  nothing-read b h =
+      ap (λ (a : ℕ). stepped a (accessedAt a false b s)) there
+      ∙ ap (stepped 0x19) (at-data-read b s ∙ not-incoming (s .transfer .direction) s (second-not _ _ h e) refl)
+      ∙ ap (λ (t : State). noDataNow t) (pointer-kept 0x19 s there)
+
+  pub nothing-written : (b : ℕ) → writesData s ≡ false → accessed true b s ≡ noDataNow s
+  unfolding accessed stepped pointerAfter pick either writesData dataWritten
+  nothing-written b h =
+      ap (λ (a : ℕ). stepped a (accessedAt a true b s)) there
+      ∙ ap (stepped 0x19) (at-data-write b s ∙ not-outgoing (s .transfer .direction) b s (second-not _ _ h e))
+      ∙ ap (λ (t : State). noDataNow t) (pointer-kept 0x19 s there)
 
 by-out : (d : Direction) (s : State) → writesBy d s ≡ true → (d ≡ Out) × (dbr s ≡ true)
 by-out Unfixed s e = (cc, cc)

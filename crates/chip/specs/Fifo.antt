@@ -24,6 +24,10 @@ waiting q = take (q .held) (inOrder q)
 unfoldable pub round : ℕ → ℕ
 round n = pick (ltb n 12) n (pick (ltb n 24) (n - 12) 0)
 
+-- the place behind those that wait: the next byte's
+unfoldable pub placeBehind : Fifo → ℕ
+placeBehind q = round (q .first + q .held)
+
 -- nothing waits
 abbrev pub empty : Fifo
 empty = record { bytes = replicate 12 0; first = 0; held = 0 }
@@ -50,11 +54,11 @@ front q = pick (isEmpty q) 0 (getD (q .bytes) (q .first) 0)
 unfoldable pub pop : Fifo → Fifo
 pop q = pick (isEmpty q) q (record { bytes = q .bytes; first = round (q .first + 1); held = q .held - 1 })
 
--- with one byte more, the newest, where there is room: it goes into the place behind those that wait, and no other changes
+-- with one byte more, the newest, where there is room: it goes into the place behind the others, and no other place changes
 unfoldable pub push : ℕ → Fifo → Fifo
 push b q =
     pick (hasRoom q)
-    (record { bytes = set (q .bytes) (round (q .first + q .held)) b; first = q .first; held = q .held + 1 }) q
+    (record { bytes = set (q .bytes) (placeBehind q) b; first = q .first; held = q .held + 1 }) q
 
 -- in the image
 
@@ -66,15 +70,10 @@ fifoBytes q = q .held ∷ q .first ∷ q .bytes
 unfoldable pub fifoOf : List ℕ → Fifo
 fifoOf l = record { bytes = take 12 (drop 2 l); first = getD l 1 0; held = getD l 0 0 }
 
--- the place of the newest byte
-unfoldable pub newestPlace : Fifo → ℕ
-newestPlace q = round (q .first + q .held - 1)
-
--- the ends and the newest byte, stored over such bytes
+-- its ends stored over such bytes l, and what it holds in the place behind those that wait in l
 unfoldable pub endsOver : Fifo → List ℕ → List ℕ
 endsOver q l =
-    q .held ∷ q .first
-    ∷ pick (isEmpty q) (take 12 (drop 2 l)) (set (take 12 (drop 2 l)) (newestPlace q) (getD (q .bytes) (newestPlace q) 0))
+    q .held ∷ q .first ∷ set (take 12 (drop 2 l)) (placeBehind (fifoOf l)) (getD (q .bytes) (placeBehind (fifoOf l)) 0)
 
 -- how many bytes that are
 abbrev pub fifoLength : ℕ
@@ -90,12 +89,14 @@ pub record Whole (q : Fifo) : Type 0 where
   pub place : q .first < 12
   pub few : q .held < 13
 
--- what a call does to the FIFO: each of these touches one place at most
+-- what a Request does to the FIFO, or one access: of the places it touches at most the one behind those that wait.
+-- A byte that is put in and dropped at once: only from a state that no calls lead to
 pub data Goes (q : Fifo) : Fifo → Type 0 where
   stays : Goes q q
   loses : Goes q (pop q)
   gets : (b : ℕ) → Goes q (push b q)
   drops : Goes q (emptied q)
+  gets-and-drops : (b : ℕ) → Goes q (emptied (push b q))
 
 -- the keeping, as the list of waiting bytes sees it
 pub record KeepsBytes : Type 0 where

@@ -45,17 +45,15 @@ pub fn put(q: Fifo, part: &mut [u8])
     }
 }
 
-// The ends and the newest byte: what a FIFO differs in from the one before, where at most one byte came.
+// The ends, and the place behind those that waited: all that differs after a step that brings one byte at most (chip's Goes).
 pub fn put_ends(q: Fifo, part: &mut [u8])
     ensures { λ _. ⌜ now (part .exit) ≡ pick (eqb (length (now (part .entry))) fifoLength) (endsOver q (now (part .entry))) (now (part .entry)) ⌝ }
 {
     if part.len() == LENGTH {
+        let at = crate::round((part[1] as u32) + (part[0] as u32)) as usize;
+        part[2 + at] = q.bytes[at];
         part[0] = q.held;
         part[1] = q.first;
-        if q.held != 0 {
-            let at = crate::round((q.first as u32) + (q.held as u32) - 1) as usize;
-            part[2 + at] = q.bytes[at];
-        }
     }
 }
 

@@ -122,7 +122,7 @@ pub fn write(s: State, image: &mut [u8])
     }
 }
 
-// The state that a call led to from the image's own. Of the FIFO it stores the ends and the newest byte: at most that one came.
+// The state that a step led to from the image's own, where it brought the FIFO one byte at most: of its places one is stored.
 pub fn write_on(s: State, image: &mut [u8])
     ensures { λ _. ⌜ now (image .exit) ≡ pick (eqb (length (now (image .entry))) imageLength)
         (take fifoPlace (imageOf s) ++ endsOver (s .fifo) (drop fifoPlace (now (image .entry)))) (now (image .entry)) ⌝ }

@@ -61,7 +61,7 @@ pub fn fifo(q: Fifo, image: &mut [u8])
     }
 }
 
-// The ends of the FIFO and its newest byte.
+// The ends of the FIFO, and the place behind those that waited.
 pub fn ends(q: Fifo, image: &mut [u8])
     ensures { λ _. ⌜ now (image .exit) ≡ pick (eqb (length (now (image .entry))) imageLength)
         (take fifoPlace (now (image .entry)) ++ endsOver q (drop fifoPlace (now (image .entry)))) (now (image .entry)) ⌝ }

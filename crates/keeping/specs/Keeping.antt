@@ -27,13 +27,14 @@ pub record Alike (s t : State) : Type 0 where
   pub rest : setFifo (t .fifo) s ≡ t
   pub fifo : SameBytes (s .fifo) (t .fifo)
 
--- the answer, with its value, and the lent slice
+-- the answer, with its value; the lent slice; and the lines that the board may ask for then
 pub record Told : Type 0 where
   pub answer : Answer
   pub lent : List ℕ
+  pub lines : ℕ
 
 abbrev pub told : Outcome → Told
-told o = record { answer = o .answer; lent = o .lent }
+told o = record { answer = o .answer; lent = o .lent; lines = lineBits (o .state) }
 
 pub record TellsNoPlaces (f : Call → State → Outcome) : Type 0 where
   pub tells : (c : Call) (s t : State) → Alike s t → told (f c s) ≡ told (f c t)
@@ -44,20 +45,24 @@ unfoldable pub toldBy : (Call → State → Outcome) → List Call → State →
 toldBy f [] s = []
 toldBy f (c ∷ l) s = told (f c s) ∷ toldBy f l (f c s .state)
 
--- a step after which k moves the FIFO's bytes about in their places
-abbrev pub keptBy : (Fifo → Fifo) → (Call → State → Outcome) → Call → State → Outcome
+-- how the bytes are moved about in their places after a call, by the call and the state before it
+abbrev pub Mover : Type 0
+Mover = Call → State → Fifo → Fifo
+
+abbrev pub keptBy : Mover → (Call → State → Outcome) → Call → State → Outcome
 keptBy k f c s =
-    record { answer = f c s .answer; state = setFifo (k (f c s .state .fifo)) (f c s .state); lent = f c s .lent }
+    record { answer = f c s .answer; state = setFifo (k c s (f c s .state .fifo)) (f c s .state); lent = f c s .lent }
 
 -- from two alike states, by any list of calls, whatever moves the bytes about on one side
 abbrev pub AnyKeeping : (Call → State → Outcome) → Type 0
 AnyKeeping f =
-    (k : Fifo → Fifo) → ((q : Fifo) → Whole q → SameBytes q (k q)) → (l : List Call) (s t : State) → Alike s t
+    (k : Mover) → ((c : Call) (s : State) (q : Fifo) → Whole q → SameBytes q (k c s q)) → (l : List Call) (s t : State) → Alike s t
     → toldBy f l s ≡ toldBy (keptBy k f) l t
 
--- the controller's step as it was before: the bytes move up at every call
+-- the controller's step over the old keeping: after each call the bytes move up, as they did before. What taking a byte and putting one
+-- in are there, is in chip's `KeptAsBefore`
 abbrev pub stepBefore : Call → State → Outcome
-stepBefore = keptBy movedUp step
+stepBefore = keptBy (λ c s. movedUp) step
 
 abbrev pub AsBefore : (Call → State → Outcome) → Type 0
 AsBefore f = (l : List Call) → toldBy f l fresh ≡ toldBy stepBefore l fresh
