@@ -26,7 +26,7 @@ use Rattle.chip.specs.declared.Noted.the-variants.{NoPhase, Was}
 use Rattle.chip.specs.declared.Phase.{Phase}
 use Rattle.chip.specs.declared.Phase.the-variants.{MessageOut}
 use Rattle.chip.specs.State.{cleared, nothingMoves, apart, setFifo, setControl, setCommand, setLci, setPe, setActivity, setDirection, setConnection, setAtn, setAck, setReported, setElapsed}
-use Rattle.chip.specs.Fifo.{empty, emptied}
+use Rattle.chip.specs.Fifo.{empty}
 use Rattle.chip.specs.Answers.{done, ignored}
 use Rattle.chip.specs.Lines.{isSingle, codeOf, ownIdentity, withIdi}
 use Rattle.chip.specs.Phases.{phaseNumber, comesIn}
@@ -150,7 +150,7 @@ aborted s =
 unfoldable pub disconnected : State → State
 disconnected s =
     setConnection Disconnected
-    (setAtn false (setAck false (setActivity Idle (setDirection Unfixed (setFifo (emptied (s .fifo)) s)))))
+    (setAtn false (setAck false (setActivity Idle (setDirection Unfixed (setFifo empty s)))))
 
 -- a selection begins
 unfoldable pub selecting : Command → State → State

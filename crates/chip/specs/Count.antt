@@ -10,7 +10,7 @@ use Rattle.chip.specs.declared.State.{State}
 use Rattle.chip.specs.declared.Direction.{Direction}
 use Rattle.chip.specs.declared.Direction.the-variants.{Unfixed, In, Out}
 use Rattle.chip.specs.State.{setFifo, setCount, setSingle, setDirection}
-use Rattle.chip.specs.Fifo.{emptied, waits, isEmpty, hasRoom}
+use Rattle.chip.specs.Fifo.{empty, waits, isEmpty, hasRoom}
 
 -- how many bytes are left to cross
 unfoldable pub left : State → ℕ
@@ -39,7 +39,7 @@ lowered s = setSingle false (setCount (pick (s .transfer .single) 0 (s .register
 
 -- a Select-And-Transfer loads the count as it stands, and forgets the direction; nothing waits in the FIFO
 unfoldable pub loaded : State → State
-loaded s = setSingle false (setDirection Unfixed (setFifo (emptied (s .fifo)) s))
+loaded s = setSingle false (setDirection Unfixed (setFifo empty s))
 
 -- Transfer Info loads one byte, where the count is zero or the command says single byte
 unfoldable pub meansOne : Bool → State → Bool
@@ -47,4 +47,4 @@ meansOne single s = either single (eqb (s .registers .count) 0)
 
 unfoldable pub loadedForTransferInfo : Bool → State → State
 loadedForTransferInfo single s =
-    setSingle (meansOne single s) (setCount (pick (meansOne single s) 0 (s .registers .count)) (setFifo (emptied (s .fifo)) s))
+    setSingle (meansOne single s) (setCount (pick (meansOne single s) 0 (s .registers .count)) (setFifo empty s))

@@ -62,8 +62,7 @@ pub fn aborted(s: State) -> State
 pub fn disconnected(s: State) -> State
     ensures { λ r. ⌜ r ≡ disconnected s ⌝ }
 {
-    let q = s.fifo;
-    let t = set::direction(set::fifo(s, fifo::emptied(q)), Direction::Unfixed);
+    let t = set::direction(set::fifo(s, fifo::empty()), Direction::Unfixed);
     let u = set::activity(t, Activity::Idle);
     set::connection(
         set::atn(set::ack(u, false), false),

@@ -99,9 +99,8 @@ pub fn lowered(s: State) -> State
 pub fn loaded(s: State) -> State
     ensures { λ r. ⌜ r ≡ loaded s ⌝ }
 {
-    let q = s.fifo;
     set::single(
-        set::direction(set::fifo(s, fifo::emptied(q)), Direction::Unfixed),
+        set::direction(set::fifo(s, fifo::empty()), Direction::Unfixed),
         false,
     )
 }
@@ -118,8 +117,7 @@ pub fn means_one(single: bool, s: State) -> bool
 pub fn loaded_for_transfer_info(single: bool, s: State) -> State
     ensures { λ r. ⌜ r ≡ loadedForTransferInfo single s ⌝ }
 {
-    let q = s.fifo;
-    let t = set::fifo(s, fifo::emptied(q));
+    let t = set::fifo(s, fifo::empty());
     if means_one(single, s) {
         return set::single(set::count(t, 0), true);
     }

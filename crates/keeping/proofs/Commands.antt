@@ -15,7 +15,7 @@ use Rattle.chip.specs.declared.Command.{Command}
 use Rattle.chip.specs.declared.Fifo.{Fifo}
 use Rattle.chip.specs.declared.State.{State}
 use Rattle.keeping.specs.Keeping.{SameBytes, Alike}
-use Rattle.keeping.proofs.SameBytes.{same-begin, same-dropped}
+use Rattle.keeping.proofs.SameBytes.{same-begin}
 use Rattle.keeping.proofs.Alike.{AlikeReply, said, alike, chosen, replied, replied-by}
 use Rattle.keeping.proofs.Moving.{raised, ended}
 use Rattle.keeping.proofs.SelectAndTransfer.{resumes}
@@ -27,7 +27,7 @@ module _ (s : State) {r : Fifo} (g : SameBytes (s .fifo) r) where
 
   begins : (c : Command) → Alike (selectAndTransferBegun c s) (selectAndTransferBegun c (setFifo r s))
   unfolding selectAndTransferBegun selecting fromDisconnected loaded
-  begins c = chosen _ (resumes s g c) (alike (same-dropped g))
+  begins c = chosen _ (resumes s g c) (alike same-begin)
 
   translates : (l : List ℕ) → Alike (translatedBy l s) (translatedBy l (setFifo r s))
   unfolding translatedBy
@@ -39,12 +39,12 @@ module _ (s : State) {r : Fifo} (g : SameBytes (s .fifo) r) where
       chosen _ aborts
       (chosen _ (alike g)
       (chosen _ (alike g)
-      (chosen _ (alike (same-dropped g))
+      (chosen _ (alike same-begin)
       (chosen _ (alike g)
       (chosen _ (alike g)
       (chosen _ (begins _)
       (chosen _ (begins _)
-      (chosen _ (alike g) (chosen _ (translates _) (chosen _ (alike (same-dropped g)) (alike g)))))))))))
+      (chosen _ (alike g) (chosen _ (translates _) (chosen _ (alike same-begin) (alike g)))))))))))
 
   same-valid : (n : ℕ) → isValid n s ≡ isValid n (setFifo r s)
   unfolding isValid isReady isResumable hasSize size

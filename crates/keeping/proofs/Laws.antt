@@ -81,7 +81,7 @@ module _ (k : Mover) (same : (c : Call) (u : State) (q : Fifo) → Whole q → S
       }
 
   by-calls : (l : List Call) (s t : State) → Alike s t → toldBy step l s ≡ toldBy (keptBy k step) l t
-  unfolding toldBy
+  unfolding toldBy lineBits destination
   by-calls [] s t h = refl
   by-calls (c ∷ l) s t h =
       ap₂ (λ (x : Told) (y : List Told). x ∷ y) (tells-no-places .tells c s t h)

@@ -23,7 +23,7 @@ use Rattle.chip.specs.declared.Stage.{Stage}
 use Rattle.chip.specs.declared.Stage.the-variants.{SendIdentify, SendCommand, Body, AfterData, Disconnecting, Reselected, AfterStatus, Elsewhere}
 use Rattle.chip.specs.declared.State.{State}
 use Rattle.keeping.specs.Keeping.{SameBytes, Alike}
-use Rattle.keeping.proofs.SameBytes.{same-empty, same-room, same-front, same-pop, same-push, same-dropped}
+use Rattle.keeping.proofs.SameBytes.{same-empty, same-room, same-front, same-pop, same-push, same-begin}
 use Rattle.keeping.proofs.Alike.{AlikeReply, said, alike, chosen, replied, replied-by}
 use Rattle.keeping.proofs.Moving.{kept-incoming, same-unread, ended, unless-halted}
 
@@ -130,7 +130,7 @@ module _ (s : State) {r : Fifo} (g : SameBytes (s .fifo) r) where
 
   pub resumes : (c : Command) → Alike (resumed c s) (resumed c (setFifo r s))
   unfolding resumed loaded ackAfterResume
-  resumes c = chosen _ (ended _ (same-dropped g) 0x16) (alike (same-dropped g))
+  resumes c = chosen _ (ended _ same-begin 0x16) (alike same-begin)
 
 -- t is s with the bus free
 module _ (s t : State) {r : Fifo} (g : SameBytes (s .fifo) r) (h : SameBytes (t .fifo) r) where

@@ -10,4 +10,4 @@ use Rattle.chip.proofs.FifoLaws.{keeps-bytes}
 pub dropped-whole : (d : Direction) {q : Fifo} → Whole q → Whole (withoutOutgoing d q)
 dropped-whole Unfixed u = u
 dropped-whole In u = u
-dropped-whole Out u = keeps-bytes .begins-whole
+dropped-whole Out {q} u = keeps-bytes .dropped-whole q u

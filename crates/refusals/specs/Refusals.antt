@@ -14,7 +14,7 @@ use mathlib.Core.Path.{_≡_}
 use mathlib.Core.Bool.{true}
 use Prim.Native.Nat.{ℕ}
 use Rattle.chip.specs.State.{setPointer, setLci}
-use Rattle.chip.specs.Fifo.{empty}
+use Rattle.chip.specs.Fifo.{emptied}
 use Rattle.chip.specs.Answers.{number, value}
 use Rattle.chip.specs.Calls.{Call, Outcome, lentBy}
 use Rattle.chip.specs.declared.State.{State}
@@ -46,7 +46,7 @@ pub record SameCount (s t : State) : Type 0 where
 
 pub data Untaken : Fifo → Fifo → Type 0 where
   kept : {q : Fifo} → Untaken q q
-  dropped : {q : Fifo} → Untaken q empty
+  dropped : {q : Fifo} → Untaken q (emptied q)
 
 -- by the activity afterwards, and the way before and after
 pub data Cause : Activity → Direction → Direction → Type 0 where

@@ -2,16 +2,17 @@
 --   Lined      the bytes that wait in q are l, the oldest first
 --   none-lined, popped, pushed              it stays so
 --   empty-none, empty-some, room-is, waits-is, front-is   what the FIFO's tests come to
-use mathlib.Core.Path.{_≡_, ap, _∙_}
+use mathlib.Core.Path.{_≡_, ap, sym, _∙_}
 use mathlib.Core.Bool.{true, false}
 use mathlib.Core.List.{List, [], _∷_, _++_}
 use Prim.Native.Nat.{ℕ, suc, _<_, _≤_}
 use native.Mathlib.Omega.{arith}
 use lib.Dec.{eqb, ltb}
-use lib.ListN.{length}
-use borrow.Author.Tests.{ne-eqb}
+use lib.ListN.{length, drop, getD}
+use borrow.Author.Tests.{ne-eqb, lt-ltb}
 use Rattle.chip.specs.Fifo.{waiting, isEmpty, hasRoom, front, pop, push, waits, empty, Whole}
 use Rattle.chip.specs.declared.Fifo.{Fifo}
+use Rattle.chip.proofs.Cases.{taken}
 use Rattle.chip.proofs.FifoLaws.{keeps-bytes, waits-below}
 
 pub record Lined (q : Fifo) (l : List ℕ) : Type 0 where
@@ -37,19 +38,24 @@ module _ {q : Fifo} where
   waits-is h = keeps-bytes .number q (h .whole) ∙ ap length (h .bytes)
 
   pub front-is : {b : ℕ} {l : List ℕ} → Lined q (b ∷ l) → front q ≡ b
-  front-is {b} {l} h = keeps-bytes .oldest q b l (h .whole) (h .bytes)
+  front-is h = keeps-bytes .oldest q (h .whole) ∙ ap (λ (x : List ℕ). getD x 0 0) (h .bytes)
 
   pub fits : {l : List ℕ} → Lined q l → length l ≤ 12
   fits h = omega (arith, waits-below (h .whole), waits-is h)
 
   pub popped : {b : ℕ} {l : List ℕ} → Lined q (b ∷ l) → Lined (pop q) l
-  popped {b} {l} h =
-      record { whole = keeps-bytes .pop-whole q (h .whole); bytes = keeps-bytes .less q b l (h .whole) (h .bytes) }
+  popped h =
+      record {
+        whole = keeps-bytes .pop-whole q (h .whole);
+        bytes = keeps-bytes .less q (h .whole) ∙ ap (drop 1) (h .bytes);
+      }
 
   pub pushed : {l : List ℕ} (b : ℕ) → Lined q l → length l < 12 → Lined (push b q) (l ++ (b ∷ []))
   pushed {l = l} b h k =
-      let n : length (waiting q) < 12 = omega (arith, ap length (h .bytes)) in
+      let room : hasRoom q ≡ true = room-is h ∙ lt-ltb (length l) 12 k in
       record {
         whole = keeps-bytes .push-whole q b (h .whole);
-        bytes = keeps-bytes .more q b (h .whole) n ∙ ap (λ (x : List ℕ). x ++ (b ∷ [])) (h .bytes);
+        bytes =
+            keeps-bytes .more q b (h .whole) ∙ taken _ _ (sym (keeps-bytes .room q (h .whole)) ∙ room)
+            ∙ ap (λ (x : List ℕ). x ++ (b ∷ [])) (h .bytes);
       }
