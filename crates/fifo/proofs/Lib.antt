@@ -1,4 +1,4 @@
 pub mod Places
-pub mod Zeros
 pub mod BulkLaws
 pub mod Going
+pub mod Stored

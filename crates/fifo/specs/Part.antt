@@ -1,4 +1,4 @@
--- The FIFO's part of the image: many bytes moved in it at once. Bytes that are no FIFO's move nothing.
+-- The FIFO's part of the image: many bytes moved in it at once. Bytes of another length move nothing.
 use mathlib.Core.Bool.{Bool}
 use mathlib.Core.List.{List}
 use Prim.Native.Nat.{ℕ}
@@ -24,8 +24,10 @@ inPart r = record { moved = r .moved; part = fifoBytes (r .fifo); bytes = r .byt
 abbrev pub unmoved : List ℕ → List ℕ → PartMoved
 unmoved l p = record { moved = 0; part = p; bytes = l }
 
+-- read out into the slice l; from bytes that are no FIFO's, none
 unfoldable pub partDrained : List ℕ → List ℕ → PartMoved
 partDrained l p = pick (isPart p) (inPart (drained l (fifoOf p))) (unmoved l p)
 
+-- the slice l written in, as long as fewer than n wait
 unfoldable pub partFilled : ℕ → List ℕ → List ℕ → PartMoved
-partFilled n l p = pick (isPart p) (inPart (filled n l (fifoOf p))) (unmoved l p)
+partFilled n l p = pick (eqb (length p) fifoLength) (inPart (filled n l (fifoOf p))) (unmoved l p)

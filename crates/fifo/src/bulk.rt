@@ -5,30 +5,35 @@ ghost use lib.Dec.{ltb};
 ghost use Rattle.chip.specs.Choice.{both};
 ghost use Rattle.fifo.specs.Part.{partDrained, partFilled};
 use crate::part;
+use crate::part::LENGTH;
 
 pub fn drain(part: &mut [u8], out: &mut [u8]) -> u8
     ensures { λ r. ⌜ (r ≡ partDrained (now (out .entry)) (now (part .entry)) .moved)
         × (now (part .exit) ≡ partDrained (now (out .entry)) (now (part .entry)) .part)
         × (now (out .exit) ≡ partDrained (now (out .entry)) (now (part .entry)) .bytes) ⌝ }
 {
-    if part::is_fifo(part) {
+    if part.len() == LENGTH {
         let mut first = part[1];
         let mut held = part[0];
+        if 12 < held {
+            return 0;
+        }
+        if 11 < first {
+            return 0;
+        }
         let mut i = 0;
         while i < out.len() {
             if held == 0 {
-                part[0] = held;
-                part[1] = first;
+                part::set_ends(first, held, part);
                 return i as u8;
             }
             let at = 2 + (first as usize);
             out[i] = part[at];
-            first = crate::round((first as u32) + 1);
+            first = crate::next(first);
             held -= 1;
             i += 1;
         }
-        part[0] = held;
-        part[1] = first;
+        part::set_ends(first, held, part);
         return i as u8;
     }
     0
@@ -48,22 +53,22 @@ pub fn fill(n: u32, part: &mut [u8], from: &[u8]) -> u8
     ensures { λ r. ⌜ (r ≡ partFilled n (now (from .entry)) (now (part .entry)) .moved)
         × (now (part .exit) ≡ partFilled n (now (from .entry)) (now (part .entry)) .part) ⌝ }
 {
-    if part::is_fifo(part) {
-        let first = part[1] as u32;
+    if part.len() == LENGTH {
+        let first = part[1];
         let mut held = part[0];
         let mut i = 0;
         while i < from.len() {
             if takes(n, held) {
-                let at = 2 + (crate::round(first + (held as u32)) as usize);
+                let at = 2 + (crate::behind(first, held) as usize);
                 part[at] = from[i];
                 held += 1;
                 i += 1;
             } else {
-                part[0] = held;
+                part::set_ends(first, held, part);
                 return i as u8;
             }
         }
-        part[0] = held;
+        part::set_ends(first, held, part);
         return i as u8;
     }
     0

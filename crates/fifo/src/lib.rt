@@ -5,11 +5,12 @@ pub mod bulk; // bulk.rt: many bytes at once, in that part
 
 ghost use mathlib.Core.Bool.{not};
 ghost use mathlib.Core.Path.{_≡_};
+ghost use Prim.Native.Nat.{_+_};
 ghost use Rattle.chip.specs.Fifo.{empty, emptied, isEmpty, hasRoom, front, pop, push, round, waits};
 use chip::Fifo;
 
 // The place of a number: the twelve go round.
-pub(crate) fn round(n: u32) -> u8
+fn round(n: u32) -> u8
     ensures { λ r. ⌜ r ≡ round n ⌝ }
 {
     if n < 12 {
@@ -19,6 +20,20 @@ pub(crate) fn round(n: u32) -> u8
         return (n - 12) as u8;
     }
     0
+}
+
+// The place after another.
+pub(crate) fn next(place: u8) -> u8
+    ensures { λ r. ⌜ r ≡ round (place + 1) ⌝ }
+{
+    round((place as u32) + 1)
+}
+
+// The place behind held bytes, of which the oldest has the place first.
+pub(crate) fn behind(first: u8, held: u8) -> u8
+    ensures { λ r. ⌜ r ≡ round (first + held) ⌝ }
+{
+    round((first as u32) + (held as u32))
 }
 
 // Nothing waits.
@@ -36,8 +51,9 @@ pub fn empty() -> Fifo
 pub fn emptied(q: Fifo) -> Fifo
     ensures { λ r. ⌜ r ≡ emptied q ⌝ }
 {
+    let bytes = q.bytes;
     Fifo {
-        bytes: q.bytes,
+        bytes,
         first: 0,
         held: 0,
     }
@@ -92,9 +108,10 @@ pub fn pop(q: Fifo) -> Fifo
     if held == 0 {
         return q;
     }
-    let first = round((q.first as u32) + 1);
+    let first = next(q.first);
+    let bytes = q.bytes;
     Fifo {
-        bytes: q.bytes,
+        bytes,
         first,
         held: held - 1,
     }
@@ -105,7 +122,7 @@ pub fn push(b: u8, q: Fifo) -> Fifo
 {
     let held = q.held;
     if held < 12 {
-        let at = round((q.first as u32) + (held as u32)) as usize;
+        let at = behind(q.first, held) as usize;
         let mut bytes = q.bytes;
         bytes[at] = b;
         return Fifo {

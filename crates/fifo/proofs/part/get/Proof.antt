@@ -32,12 +32,16 @@ copy-requires c κs = search needs
 shared-slice-read-t14 : tie.Need-shared-slice-read-t14
 shared-slice-read-t14 c = search needs
 
+shared-slice-read-t16 : tie.Need-shared-slice-read-t16
+shared-slice-read-t16 c = search needs
+
 returns : tie.Need-returns
 unfolding fifoOf
 returns c =
-    let l = c .before .before .before .before .before .before .before .args .part .now in
-    let h = c .before .before .before .before .before .if1 .taken in
-    ap (λ (b : List ℕ). record { bytes = b; held = getD l 0 0 }) (copied _ _ _ (omega (arith, places-long l h)) (c .before .before .copy .ensures .1))
+    let l = c .before .before .before .before .before .before .before .before .args .part .now in
+    let h = c .before .before .before .before .before .before .if1 .taken in
+    ap (λ (b : List ℕ). record { bytes = b; first = getD l 1 0; held = getD l 0 0 })
+    (copied _ _ _ (omega (arith, places-long l h)) (c .before .before .before .copy .ensures .1))
     ∙ sym (taken _ _ (eq-eqb _ _ h))
 
 empty-requires : tie.Need-empty-requires
@@ -57,6 +61,7 @@ get-spec =
     slice-aggregate-copy
     copy-requires
     shared-slice-read-t14
+    shared-slice-read-t16
     returns
     empty-requires
     returns-2)

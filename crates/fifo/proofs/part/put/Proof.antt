@@ -31,8 +31,8 @@ copy-requires c κs =
     let st = c .before .before .before .before .before in
     omega (arith, bytes-long st, places-long (st .args .part .now) (c .before .before .before .if1 .taken))
 
-slice-write-part : tie.Need-slice-write-part
-slice-write-part c = search needs
+set-ends-requires : tie.Need-set-ends-requires
+set-ends-requires c κs = search needs
 
 same-length : tie.Need-same-length
 same-length c = search needs
@@ -40,9 +40,9 @@ same-length c = search needs
 returns : tie.Need-returns
 unfolding fifoBytes
 returns c =
-    let st = c .before .before .before .before .before .before .before .before in
-    let h = c .before .before .before .before .before .before .if1 .taken in
-    put-over (st .args .part .now) (st .args .q .bytes) _ (st .args .q .held) h (bytes-long st) (c .before .before .copy .ensures .1)
+    let st = c .before .before .before .before .before .before .before .before .before .before .before .before in
+    let h = c .before .before .before .before .before .before .before .before .before .before .if1 .taken in
+    c .before .before .set-ends .ensures ∙ put-over (st .args .part .now) (st .args .q .bytes) _ (st .args .q .held) (st .args .q .first) h (bytes-long st) (c .before .before .before .before .before .before .copy .ensures .1)
     ∙ sym (taken _ _ (eq-eqb _ _ h))
 
 returns-2 : tie.Need-returns-2
@@ -58,7 +58,7 @@ put-spec =
     part-copy-start
     part-copy-end
     copy-requires
-    slice-write-part
+    set-ends-requires
     same-length
     returns
     returns-2)
