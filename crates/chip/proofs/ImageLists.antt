@@ -1,7 +1,7 @@
 -- Facts on lists and numbers alone, for the proofs of the image.
 -- `stored`: a turn of a loop that copies into the middle of a list. `fetched`: one that copies out of it, and `fetched-all` its end.
 -- `joined`: three bytes joined by shifts are their sum.
--- `three`: three runs laid one after the other into a list, which then begins with their join.
+-- `three`, `three-over`: three runs laid one after the other into a list, which then begins with their join; what stood behind stays.
 -- `spelled`, `spelled-is`: a part of a list, element by element. `seam`: a part and what follows it.
 use mathlib.Core.Path.{_≡_, refl, ap, sym, _∙_}
 use mathlib.Core.List.{List, [], _∷_, _++_, append-nil, append-assoc}
@@ -11,7 +11,7 @@ use native.Mathlib.Numerals.{add-one}
 use native.Mathlib.Omega.{arith}
 use lib.Bits.{bitOr, or-shifted}
 use lib.ListN.{length, getD, set, take, drop, length-append, length-drop, drop-of-length-le, take-append-drop}
-use lib.Seq.{paste, paste-suc, getD-drop, sets, sets-eq, take-at, take-length, drop-cons, drop-drop}
+use lib.Seq.{paste, paste-suc, getD-drop, sets, sets-eq, take-at, take-length, drop-at, drop-append-add, drop-cons, drop-drop, length-take-le}
 
 pub stored : (d d₀ s : List ℕ) (at j : ℕ) → d ≡ paste d₀ at s j → at + j < length d₀ → j < length s
     → set d (at + j) (getD s j 0) ≡ paste d₀ at s (j + 1)
@@ -62,6 +62,32 @@ three l w x y a b c i j k ew ex ey ha hb hc hl hx =
     ey ∙ sets-eq c x j (omega arith) ∙ laid x (a ++ b) (drop (i + length b) w) c j px hab in
     let habc : length (a ++ b ++ c) ≡ k = simp length-append (omega arith) in
     ap (take k) py ∙ take-at (a ++ b ++ c) (drop (j + length c) x) k habc ∙ append-assoc a b c
+
+-- what stood behind the three stays
+pub three-over : (l w x y a b c : List ℕ) (i j k : ℕ)
+    → w ≡ sets l 0 a → x ≡ paste w i b (length b) → y ≡ sets x j c
+    → length a ≡ i → i + length b ≡ j → j + length c ≡ k
+    → k ≤ length l → k ≤ length x
+    → y ≡ (a ++ (b ++ c)) ++ drop k l
+three-over l w x y a b c i j k ew ex ey ha hb hc hl hx =
+    let pw : w ≡ a ++ drop (0 + length a) l = ew ∙ sets-eq a l 0 (omega arith) in
+    let px : x ≡ a ++ b ++ drop (i + length b) w = ex ∙ rw take-length (laid w a (drop (0 + length a) l) b i pw ha) in
+    let hab : length (a ++ b) ≡ j = simp length-append (omega arith) in
+    let kx : k ≡ length (a ++ b) + length c = omega arith in
+    let kw : i + length b + length c ≡ length a + (length b + length c) = omega arith in
+    let kl : 0 + length a + (length b + length c) ≡ k = omega arith in
+    let behind-x : drop k x ≡ drop (i + length b + length c) w =
+    ap (drop k) px ∙ ap (λ (n : ℕ). drop n (a ++ b ++ drop (i + length b) w)) kx
+    ∙ drop-append-add (a ++ b) (drop (i + length b) w) (length c) ∙ drop-drop (length c) (i + length b) w in
+    let behind-w : drop (i + length b + length c) w ≡ drop k l =
+    ap (drop (i + length b + length c)) pw ∙ ap (λ (n : ℕ). drop n (a ++ drop (0 + length a) l)) kw
+    ∙ drop-append-add a (drop (0 + length a) l) (length b + length c) ∙ drop-drop (length b + length c) (0 + length a) l
+    ∙ ap (λ (n : ℕ). drop n l) kl in
+    let py : y ≡ take j x ++ c ++ drop (j + length c) x = ey ∙ sets-eq c x j (omega arith) in
+    let behind : drop k y ≡ drop k x =
+    ap (drop k) py ∙ rw (drop-at (take j x ++ c) (drop (j + length c) x) k (rw (length-append, length-take-le j x (omega arith)) hc), hc) in
+    sym (take-append-drop k y) ∙ ap (λ (r : List ℕ). r ++ drop k y) (three l w x y a b c i j k ew ex ey ha hb hc hl hx)
+    ∙ ap (λ (r : List ℕ). (a ++ (b ++ c)) ++ r) (behind ∙ behind-x ∙ behind-w)
 
 -- the n elements from i on, one by one
 abbrev pub spelled : ℕ → ℕ → List ℕ → List ℕ

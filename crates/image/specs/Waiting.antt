@@ -1,4 +1,4 @@
--- The waiting bytes in the image: what moves them there. Bytes that are no image's, by their length or the FIFO's part, move none.
+-- The waiting bytes in the image: what moves them there. Bytes of another length than an image's move none.
 use mathlib.Core.Bool.{Bool}
 use mathlib.Core.List.{List, _++_}
 use Prim.Native.Nat.{ℕ}
@@ -25,10 +25,10 @@ inImage l r = record { moved = r .moved; image = take fifoPlace l ++ fifoBytes (
 abbrev pub unmoved : List ℕ → List ℕ → ImageMoved
 unmoved d l = record { moved = 0; image = l; bytes = d }
 
--- read out into the slice d
+-- read out into the slice d, where the end is a FIFO's
 unfoldable pub imageDrained : List ℕ → List ℕ → ImageMoved
 imageDrained d l = pick (holdsFifo l) (inImage l (drained d (stateOf l .fifo))) (unmoved d l)
 
 -- the slice d written in, as long as fewer than n wait
 unfoldable pub imageFilled : ℕ → List ℕ → List ℕ → ImageMoved
-imageFilled n d l = pick (holdsFifo l) (inImage l (filled n d (stateOf l .fifo))) (unmoved d l)
+imageFilled n d l = pick (eqb (length l) imageLength) (inImage l (filled n d (stateOf l .fifo))) (unmoved d l)

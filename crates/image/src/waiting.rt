@@ -1,20 +1,21 @@
 // The waiting bytes, in the image itself: only the FIFO's part is looked at, and of it only the byte that moves and the ends are stored
-// (room fifo). Bytes that are no image say no byte, and stay as they are (specs/Waiting.antt).
+// (room fifo). Bytes of another length than an image's hold no byte, and stay as they are (specs/Waiting.antt).
 use crate::FIFO;
 use crate::LENGTH;
 use fifo::bulk;
 use fifo::part;
 ghost use mathlib.Core.Path.{_≡_};
 ghost use mathlib.Core.List.{_++_};
-ghost use lib.ListN.{take};
+ghost use lib.Dec.{eqb};
+ghost use lib.ListN.{length, take};
 ghost use Rattle.chip.specs.Choice.{pick};
 ghost use Rattle.chip.specs.Fifo.{fifoBytes, front, pop, push};
-ghost use Rattle.chip.specs.Image.{fifoPlace, stateOf};
-ghost use Rattle.image.specs.Waiting.{holdsFifo, imageDrained, imageFilled};
+ghost use Rattle.chip.specs.Image.{fifoPlace, imageLength, stateOf};
+ghost use Rattle.image.specs.Waiting.{imageDrained, imageFilled};
 
 // The oldest byte.
 pub fn front(image: &[u8]) -> u8
-    ensures { λ r. ⌜ r ≡ pick (holdsFifo (now (image .entry))) (front (stateOf (now (image .entry)) .fifo)) 0 ⌝ }
+    ensures { λ r. ⌜ r ≡ pick (eqb (length (now (image .entry))) imageLength) (front (stateOf (now (image .entry)) .fifo)) 0 ⌝ }
 {
     if image.len() == LENGTH {
         return part::front(&image[FIFO..LENGTH]);
@@ -24,7 +25,7 @@ pub fn front(image: &[u8]) -> u8
 
 // The oldest byte goes.
 pub fn pop(image: &mut [u8])
-    ensures { λ _. ⌜ now (image .exit) ≡ pick (holdsFifo (now (image .entry)))
+    ensures { λ _. ⌜ now (image .exit) ≡ pick (eqb (length (now (image .entry))) imageLength)
         (take fifoPlace (now (image .entry)) ++ fifoBytes (pop (stateOf (now (image .entry)) .fifo))) (now (image .entry)) ⌝ }
 {
     if image.len() == LENGTH {
@@ -34,7 +35,7 @@ pub fn pop(image: &mut [u8])
 
 // One byte more waits, where there is room.
 pub fn push(b: u8, image: &mut [u8])
-    ensures { λ _. ⌜ now (image .exit) ≡ pick (holdsFifo (now (image .entry)))
+    ensures { λ _. ⌜ now (image .exit) ≡ pick (eqb (length (now (image .entry))) imageLength)
         (take fifoPlace (now (image .entry)) ++ fifoBytes (push b (stateOf (now (image .entry)) .fifo))) (now (image .entry)) ⌝ }
 {
     if image.len() == LENGTH {
