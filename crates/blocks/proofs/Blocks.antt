@@ -6,8 +6,8 @@
 --   written-unfixed  no way fixed: nothing is written
 --   written-in       coming in: nothing is written
 --   written-bytes    a write leaves the slice as it is
---   written-alone    a write changes the FIFO alone
---   read-alone       so does a read where no ending is under way
+--   settled-in       where data comes in, an ending that settles leaves the FIFO
+--   settled-calm     where none is under way, nothing settles
 use mathlib.Core.Path.{_≡_, refl, ap, _∙_}
 use mathlib.Core.Bool.{true, false, true≢false}
 use mathlib.Core.List.{List, [], _∷_}
@@ -74,6 +74,11 @@ settledBy-in Interrupt s d = (d, refl)
 settledBy-in (Runs r) s d = (d, refl)
 settledBy-in (Ends r k) s d = rw d (refl, refl)
 settledBy-in (ReadOut r) s d = (d, refl)
+
+-- so an ending that settles leaves the FIFO as it is
+pub settled-in : (s : State) → s .transfer .direction ≡ In → settled s .fifo ≡ s .fifo
+unfolding settled
+settled-in s d = by-pick (λ (x : State). x .fifo ≡ s .fifo) _ (settledBy-in (s .activity) s d .1) refl
 
 -- the run r, after which an ending settles
 abbrev readOut : Bulk → State → Moved
@@ -145,17 +150,6 @@ written-bytes-by l s Out e = rw (written-out l s e)
 pub written-bytes : (l : List ℕ) (s : State) → blockWritten l s .bytes ≡ l
 written-bytes l s = written-bytes-by l s (s .transfer .direction) refl
 
--- ---- what a block changes
-
-written-alone-by : (l : List ℕ) (s : State) (d : Direction) → s .transfer .direction ≡ d
-    → blockWritten l s .state ≡ setFifo (blockWritten l s .state .fifo) s
-written-alone-by l s Unfixed e = rw (written-unfixed l s e) refl
-written-alone-by l s In e = rw (written-in l s e) refl
-written-alone-by l s Out e = rw (written-out l s e) refl
-
-pub written-alone : (l : List ℕ) (s : State) → blockWritten l s .state ≡ setFifo (blockWritten l s .state .fifo) s
-written-alone l s = written-alone-by l s (s .transfer .direction) refl
-
 calm-by : (a : Activity) (s : State) → isEnding a ≡ false → settledBy a s ≡ s
 unfolding settledBy
 calm-by Idle s e = refl
@@ -164,16 +158,5 @@ calm-by (Runs r) s e = refl
 calm-by (Ends r k) s e = absurd (true≢false e)
 calm-by (ReadOut r) s e = absurd (true≢false e)
 
-settled-calm : (s : State) → isEnding (s .activity) ≡ false → settled s ≡ s
+pub settled-calm : (s : State) → isEnding (s .activity) ≡ false → settled s ≡ s
 settled-calm s c = by-test (isEmpty (s .fifo)) (λ e. settled-empty s e ∙ calm-by (s .activity) s c) (settled-waiting s)
-
-read-alone-by : (l : List ℕ) (s : State) (d : Direction) → s .transfer .direction ≡ d → isEnding (s .activity) ≡ false
-    → blockRead l s .state ≡ setFifo (blockRead l s .state .fifo) s
-read-alone-by l s Unfixed e c = rw (read-unfixed l s e) refl
-read-alone-by l s In e c =
-    let r = drained l (s .fifo) in
-    rw (read-in l s e) (rw (settled-calm (setFifo (r .fifo) s) c) (by-pick (λ (u : State). u ≡ setFifo (u .fifo) s) (eqb (r .moved) 0) refl refl))
-read-alone-by l s Out e c = rw (read-out l s e) refl
-
-pub read-alone : (l : List ℕ) (s : State) → isEnding (s .activity) ≡ false → blockRead l s .state ≡ setFifo (blockRead l s .state .fifo) s
-read-alone l s c = read-alone-by l s (s .transfer .direction) refl c

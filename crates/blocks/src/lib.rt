@@ -32,6 +32,7 @@ fn read_in(image: &mut [u8], out: &mut [u8]) -> u8
     }
     if interrupts::in_ending(s) {
         settle(image);
+        return number;
     }
     number
 }

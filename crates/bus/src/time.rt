@@ -1,5 +1,6 @@
 // Time: units add up while selecting, to the timeout.
 ghost use mathlib.Core.Path.{_≡_};
+ghost use Prim.Native.Nat.{_+_};
 ghost use Rattle.chip.specs.Events.{passed, selectionTime, selects, timedOut};
 use chip::Connection;
 use chip::Reply;
@@ -14,6 +15,13 @@ fn timed_out(s: State) -> State
     interrupts::raise(0x42, set::connection(s, Connection::Disconnected))
 }
 
+// The units that have added up then.
+fn summed(elapsed: u8, n: u8) -> u32
+    ensures { λ r. ⌜ r ≡ elapsed + n ⌝ }
+{
+    (elapsed as u32) + (n as u32)
+}
+
 fn selection_time(n: u8, s: State) -> Reply
     ensures { λ r. ⌜ r ≡ selectionTime n s ⌝ }
 {
@@ -21,7 +29,7 @@ fn selection_time(n: u8, s: State) -> Reply
     if timeout == 0 {
         return answers::done(0, s);
     }
-    let sum = (s.wire.elapsed as u32) + (n as u32);
+    let sum = summed(s.wire.elapsed, n);
     if (timeout as u32) <= sum {
         return answers::done(0, timed_out(s));
     }

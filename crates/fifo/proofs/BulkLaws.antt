@@ -6,7 +6,9 @@
 --   filled-more    another takes the slice's first byte, and then the rest
 --   takes-room     a FIFO that takes a byte has room
 --   filled-most    no more is written than there is room for
-use mathlib.Core.Path.{_≡_, refl}
+--   drained-whole filled-whole   it stays whole
+--   drained-still  where nothing is read, it is as it was
+use mathlib.Core.Path.{_≡_, refl, ap}
 use mathlib.Core.Bool.{true, false}
 use mathlib.Core.List.{List, [], _∷_}
 use Prim.Native.Nat.{ℕ, suc, _-_, _<_, _≤_, zero-le}
@@ -14,10 +16,11 @@ use native.Mathlib.Omega.{arith}
 use lib.Dec.{ltb}
 use borrow.Author.Tests.{eqb-false, ltb-true}
 use Rattle.chip.specs.Choice.{pick, both}
-use Rattle.chip.specs.Fifo.{isEmpty, hasRoom, waits, front, pop, push}
+use Rattle.chip.specs.Fifo.{isEmpty, hasRoom, waits, front, pop, push, Whole}
 use Rattle.chip.specs.declared.Fifo.{Fifo}
-use Rattle.fifo.specs.Bulk.{more, rest, drained, takes, filled}
-use Rattle.chip.proofs.Cases.{by-test}
+use Rattle.fifo.specs.Bulk.{Bulk, more, rest, drained, takes, filled}
+use Rattle.chip.proofs.Cases.{by-pick, by-test}
+use Rattle.chip.proofs.FifoLaws.{keeps-bytes}
 
 pub drained-none : (l : List ℕ) (q : Fifo) → isEmpty q ≡ true → drained l q ≡ rest l q
 unfolding drained pick
@@ -75,3 +78,25 @@ filled-most n (b ∷ l) q =
     let r = takes-room n q e in
     rw (filled-more n b l q e) (omega (arith, waits-push b q r, room-waits q r)))
     (λ e. rw (filled-none n (b ∷ l) q e) zero-le)
+
+-- it stays whole
+
+pub drained-whole : (l : List ℕ) (q : Fifo) → Whole q → Whole (drained l q .fifo)
+unfolding drained
+drained-whole [] q u = u
+drained-whole (b ∷ l) q u = by-pick (λ (r : Bulk). Whole (r .fifo)) _ u (drained-whole l (pop q) (keeps-bytes .pop-whole q u))
+
+pub filled-whole : (n : ℕ) (l : List ℕ) (q : Fifo) → Whole q → Whole (filled n l q .fifo)
+unfolding filled
+filled-whole n [] q u = u
+filled-whole n (b ∷ l) q u = by-pick (λ (r : Bulk). Whole (r .fifo)) _ (filled-whole n l (push b q) (keeps-bytes .push-whole q b u)) u
+
+-- where nothing moves, it is as it was
+pub drained-still : (l : List ℕ) (q : Fifo) → drained l q .moved ≡ 0 → drained l q .fifo ≡ q
+unfolding drained
+drained-still [] q e = refl
+drained-still (b ∷ l) q e =
+    by-test (isEmpty q) (λ t. ap (λ (r : Bulk). r .fifo) (drained-none (b ∷ l) q t))
+    (λ t.
+    let m : drained (b ∷ l) q .moved ≡ suc (drained l (pop q) .moved) = ap (λ (r : Bulk). r .moved) (drained-more b l q t) in
+    absurd (omega arith))

@@ -1,18 +1,22 @@
 -- The image before its end: bytes 0 to 39, which are all but the FIFO's.
 --   others-of      those of a state's image
 --   others-long    how many they are
---   with-end       with the FIFO's bytes they are the image
+--   with-end whole-image   with the FIFO's bytes they are the image
 --   before-end     bytes that begin with them, up to the end
 --   after-others   .. and from the end on
+--   part-of        the FIFO's part of an image
+--   went-on        what is stored of a state that a step led to, where that touches one place at most
 use mathlib.Core.Path.{_≡_, ap, sym, _∙_}
 use mathlib.Core.List.{List, _++_, append-assoc}
 use Prim.Native.Nat.{ℕ}
 use native.Mathlib.Omega.{arith}
 use lib.ListN.{length, take, drop, length-append}
 use lib.Seq.{take-at, drop-at}
-use Rattle.chip.specs.Fifo.{fifoBytes}
-use Rattle.chip.specs.Image.{headBytes, middleBytes, imageOf, fifoPlace}
+use Rattle.chip.specs.Fifo.{fifoBytes, endsOver, Goes}
+use Rattle.chip.specs.Image.{headBytes, middleBytes, imageOf, stateOf, fifoPlace}
 use Rattle.chip.specs.declared.State.{State}
+use Rattle.chip.proofs.FifoLaws.{goes-over}
+use Rattle.image.specs.IsImage.{IsImage}
 use Rattle.chip.proofs.ImagePlaces.{head-length, middle-length}
 
 module _ (s : State) (h : length (s .registers .descriptor .cdb) ≡ 12) where
@@ -40,3 +44,16 @@ module _ (s : State) (h : length (s .registers .descriptor .cdb) ≡ 12) where
 
   pub after-others : (y z : List ℕ) → y ≡ take fifoPlace (imageOf s) ++ z → drop fifoPlace y ≡ z
   after-others y z e = ap (drop fifoPlace) e ∙ drop-at (take fifoPlace (imageOf s)) z fifoPlace others-long
+
+-- the FIFO's part of an image
+pub part-of : (l : List ℕ) → IsImage l → drop fifoPlace l ≡ fifoBytes (stateOf l .fifo)
+part-of l o =
+    after-others (stateOf l) (o .ok .cdb-long) l (fifoBytes (stateOf l .fifo)) (sym (o .same) ∙ sym (whole-image (stateOf l) (o .ok .cdb-long)))
+
+-- a step that touches one place at most
+pub went-on : (l : List ℕ) (s : State) → length (s .registers .descriptor .cdb) ≡ 12 → IsImage l → Goes (stateOf l .fifo) (s .fifo)
+    → take fifoPlace (imageOf s) ++ endsOver (s .fifo) (drop fifoPlace l) ≡ imageOf s
+went-on l s h o g =
+    ap (λ (x : List ℕ). take fifoPlace (imageOf s) ++ endsOver (s .fifo) x) (part-of l o)
+    ∙ ap (λ (x : List ℕ). take fifoPlace (imageOf s) ++ x) (goes-over (stateOf l .fifo) (s .fifo) (o .ok .fifo) g)
+    ∙ whole-image s h

@@ -17,7 +17,7 @@ ghost use mathlib.Core.Path.{_≡_};
 ghost use lib.Dec.{eqb};
 ghost use mathlib.Core.List.{_++_};
 ghost use lib.ListN.{length, take, drop};
-ghost use Rattle.chip.specs.Fifo.{endsOver};
+ghost use Rattle.chip.specs.Fifo.{endsOver, Goes};
 ghost use Rattle.chip.specs.Choice.{pick};
 ghost use Rattle.chip.specs.State.{fresh};
 ghost use Rattle.chip.specs.Activity.{goWith, isActivity};
@@ -126,6 +126,7 @@ pub fn write(s: State, image: &mut [u8])
 pub fn write_on(s: State, image: &mut [u8])
     ensures { λ _. ⌜ now (image .exit) ≡ pick (eqb (length (now (image .entry))) imageLength)
         (take fifoPlace (imageOf s) ++ endsOver (s .fifo) (drop fifoPlace (now (image .entry)))) (now (image .entry)) ⌝ }
+    ensures { λ _. ⌜ (IsImage (now (image .entry)) → Goes (stateOf (now (image .entry)) .fifo) (s .fifo) → now (image .exit) ≡ imageOf s) ⌝ }
 {
     let q = s.fifo;
     if image.len() == LENGTH {

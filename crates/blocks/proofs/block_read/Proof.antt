@@ -1,19 +1,17 @@
--- `blocks::block_read` meets its contract: coming in it is `drain`'s run, with what an ending then comes to; else nothing moves.
+-- `blocks::block_read` meets its contract: each way of data is a case of its own.
 use mathlib.Core.Path.{_≡_, refl, ap, sym, _∙_}
-use borrow.Author.Tests.{eq-eqb, ne-eqb}
-use Rattle.chip.specs.Choice.{pick}
-use Rattle.chip.specs.State.{setFifo}
-use Rattle.chip.specs.Interrupts.{settled}
-use Rattle.chip.specs.declared.Direction.the-variants.{In}
-use Rattle.chip.specs.declared.Fifo.{Fifo}
-use Rattle.fifo.specs.Bulk.{drained}
-use Rattle.blocks.proofs.Blocks.{read-in, read-unfixed, read-out}
+use Rattle.chip.specs.declared.State.{State}
+use Rattle.chip.specs.declared.Direction.{Direction}
+use Rattle.chip.specs.Image.{stateOf}
+use Rattle.chip.specs.Registers.{Moved}
+use Rattle.blocks.proofs.InImage.{state-is}
+use Rattle.blocks.proofs.Blocks.{read-unfixed, read-out}
 use borrow.Author.Needs.{needs}
 use Rattle.blocks.proofs.block_read.Statement.{statement}
 use Rattle.blocks.proofs.block_read.Tie as tie
 
-comes-in : (c : tie.After-enum-told2) → c .before .before .before .before .args .s .transfer .direction ≡ In
-comes-in c = sym (c .before .before .direction .ensures) ∙ c .enum-told2 .given .1
+state-requires : tie.Need-state-requires
+state-requires c κs = search needs
 
 direction-requires : tie.Need-direction-requires
 direction-requires c κs = search needs
@@ -24,69 +22,47 @@ enum-told c = search needs
 enum-told-2 : tie.Need-enum-told-2
 enum-told-2 c = search needs
 
-drain-requires : tie.Need-drain-requires
-drain-requires c κs = search needs
+read-in-requires : tie.Need-read-in-requires
+read-in-requires c κs = (c .before .before .before .before .before .before .before .before .before .pre, (sym (ap (λ (x : State). x .transfer .direction) (state-is _ (c .before .before .before .before .before .before .before .before .before .pre) _ (c .before .before .before .before .before .state .ensures))) ∙ sym (c .before .before .before .before .direction .ensures) ∙ c .before .before .enum-told2 .given .1))
+
+enum-told-3 : tie.Need-enum-told-3
+enum-told-3 c = search needs
 
 same-length : tie.Need-same-length
 same-length c = search needs
 
 returns : tie.Need-returns
-unfolding pick
-returns c =
-    let b = c .before .before .before .before .before .before in
-    let x = b .before .before .before .before .args in
-    let e = c .before .before .before .drain .ensures in
-    let z = sym (e .0) ∙ c .if1 .taken in
-    rw (read-in (x .out .now) (x .s) (comes-in b), eq-eqb _ _ z) (sym z, refl, e .2)
-
-fifo-requires : tie.Need-fifo-requires
-fifo-requires c κs = search needs
-
-settled-requires : tie.Need-settled-requires
-settled-requires c κs = search needs
-
-enum-told-3 : tie.Need-enum-told-3
-enum-told-3 c = search needs
-
-returns-2 : tie.Need-returns-2
-returns-2 c =
-    let x = c .before .before .before .before .args in
-    let d = sym (c .before .before .direction .ensures) ∙ c .enum-told .given .1 in
-    rw (read-unfixed (x .out .now) (x .s) d) (refl, refl, refl)
+returns c = rw (read-unfixed _ (stateOf (c .before .before .before .before .before .before .before .args .image .now)) (sym (ap (λ (x : State). x .transfer .direction) (state-is _ (c .before .before .before .before .before .before .before .pre) _ (c .before .before .before .state .ensures))) ∙ sym (c .before .before .direction .ensures) ∙ c .enum-told .given .1)) (refl, sym (c .before .before .before .before .before .before .before .pre .same), refl)
 
 same-length-2 : tie.Need-same-length-2
 same-length-2 c = search needs
 
-returns-3 : tie.Need-returns-3
-unfolding pick
-returns-3 c =
-    let b = c .before .before .before .before .before .before .before .before .before in
-    let x = b .before .before .before .before .args in
-    let e = c .before .before .before .before .before .before .drain .ensures in
-    let n = ne-eqb _ 0 (λ (z : drained (x .out .now) (x .s .fifo) .moved ≡ 0). c .before .before .before .if1 .left (e .0 ∙ z)) in
-    let s = c .settled .ensures ∙ ap settled (c .before .fifo .ensures ∙ ap (λ (q : Fifo). setFifo q (x .s)) (e .1)) in
-    rw (read-in (x .out .now) (x .s) (comes-in b), n) (e .0, s, e .2)
+same-length-3 : tie.Need-same-length-3
+same-length-3 c = search needs
 
-returns-4 : tie.Need-returns-4
-returns-4 c =
-    let x = c .before .before .before .before .args in
-    let d = sym (c .before .before .direction .ensures) ∙ c .enum-told3 .given .1 in
-    rw (read-out (x .out .now) (x .s) d) (refl, refl, refl)
+returns-2 : tie.Need-returns-2
+returns-2 c = c .before .before .before .before .read-in .ensures
+
+same-length-4 : tie.Need-same-length-4
+same-length-4 c = search needs
+
+returns-3 : tie.Need-returns-3
+returns-3 c = rw (read-out _ (stateOf (c .before .before .before .before .before .before .before .args .image .now)) (sym (ap (λ (x : State). x .transfer .direction) (state-is _ (c .before .before .before .before .before .before .before .pre) _ (c .before .before .before .state .ensures))) ∙ sym (c .before .before .direction .ensures) ∙ c .enum-told3 .given .1)) (refl, sym (c .before .before .before .before .before .before .before .pre .same), refl)
 
 pub block-read-spec : {M : Type 1} → statement M
 block-read-spec =
     tie.close
     (tie.spec
+    state-requires
     direction-requires
     enum-told
     enum-told-2
-    drain-requires
+    read-in-requires
+    enum-told-3
     same-length
     returns
-    fifo-requires
-    settled-requires
-    enum-told-3
-    returns-2
     same-length-2
-    returns-3
-    returns-4)
+    same-length-3
+    returns-2
+    same-length-4
+    returns-3)

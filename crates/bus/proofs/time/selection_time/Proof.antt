@@ -1,5 +1,4 @@
 -- `bus::time::selection_time` meets its contract: each way through the code is the definition's own way.
--- Generated: tools/write-proof bus time/selection_time selectionTime pick
 use borrow.Author.Tests.{eq-eqb, ne-eqb, le-leb, lt-leb}
 use Rattle.chip.specs.Events.{selectionTime}
 use Rattle.chip.specs.Choice.{pick}
@@ -14,11 +13,8 @@ returns : tie.Need-returns
 unfolding selectionTime pick
 returns c = simp (eq-eqb _ _ (c .before .if1 .taken), c .done .ensures)
 
-cast-sum : tie.Need-cast-sum
-cast-sum c = search needs
-
-add-sum : tie.Need-add-sum
-add-sum c = search needs
+summed-requires : tie.Need-summed-requires
+summed-requires c κs = search needs
 
 cast-if2 : tie.Need-cast-if2
 cast-if2 c = search needs
@@ -31,7 +27,9 @@ done-requires-2 c κs = search needs
 
 returns-2 : tie.Need-returns-2
 unfolding selectionTime pick
-returns-2 c = simp (ne-eqb _ _ (c .before .before .before .before .if1 .left), le-leb _ _ (c .before .before .if2 .taken), c .before .timed-out .ensures, c .done2 .ensures)
+returns-2 c =
+    let sum = c .before .before .before .summed .ensures in
+    simp (ne-eqb _ _ (c .before .before .before .before .if1 .left), le-leb _ _ (rw sum at (c .before .before .if2 .taken)), c .before .timed-out .ensures, c .done2 .ensures)
 
 cast-elapsed : tie.Need-cast-elapsed
 cast-elapsed c = search needs
@@ -44,7 +42,9 @@ done-requires-3 c κs = search needs
 
 returns-3 : tie.Need-returns-3
 unfolding selectionTime pick
-returns-3 c = simp (ne-eqb _ _ (c .before .before .before .before .if1 .left), lt-leb _ _ (c .before .before .if2 .left), c .before .elapsed .ensures, c .done3 .ensures)
+returns-3 c =
+    let sum = c .before .before .before .summed .ensures in
+    simp (ne-eqb _ _ (c .before .before .before .before .if1 .left), lt-leb _ _ (rw sum at (c .before .before .if2 .left)), c .done3 .ensures, c .before .elapsed .ensures, sum)
 
 pub selection-time-spec : {M : Type 1} → statement M
 selection-time-spec =
@@ -52,8 +52,7 @@ selection-time-spec =
     (tie.spec
     done-requires
     returns
-    cast-sum
-    add-sum
+    summed-requires
     cast-if2
     timed-out-requires
     done-requires-2
