@@ -1,6 +1,7 @@
 /* The speed of the library beside two plain models of the same paper: tests/model in Rust (behind the C entries of model_c) and
  * plain.c over a C struct. Nanoseconds per call, and how many times slower the library is.
- * `make bench BEFORE=LIBRARY` sets an earlier library in the place of the model in Rust, so that both are measured in one run.
+ * `make bench BEFORE=LIBRARY` sets an earlier library in the place of the model in Rust, so that both are measured in one run. Its images
+ * may have another length: each library is asked for its own, and both lend it from buffers of the same size.
  *
  *     gcc -O2 -std=c11 -Wall -Wextra -Werror -Iinclude -o bench bench/bench.c bench/plain.c libmodel_c.a libam33c93a.a
  *
@@ -37,12 +38,18 @@ static uint32_t arrived(void)
     return all;
 }
 
-static uint8_t library_state[AM33C93A_IMAGE_LENGTH], library_saved[AM33C93A_IMAGE_LENGTH];
-static uint8_t library_copies[COPIES][AM33C93A_IMAGE_LENGTH];
+#ifdef BEFORE
+enum { ROOM = 64 }; /* for an image of either library */
+static uint32_t library_length, model_length;
+#else
+enum { ROOM = AM33C93A_IMAGE_LENGTH, library_length = AM33C93A_IMAGE_LENGTH };
+#endif
+
+static uint8_t library_state[ROOM], library_saved[ROOM], library_copies[COPIES][ROOM];
 #define SIDE(name) library_##name
 #define ENTRY(name) am33c93a_##name
-#define STATE library_state, AM33C93A_IMAGE_LENGTH
-#define COPY(i) library_copies[i], AM33C93A_IMAGE_LENGTH
+#define STATE library_state, library_length
+#define COPY(i) library_copies[i], library_length
 #define library_at_pointer library_state[25] /* docs/IMAGE.md */
 #include "work.h"
 #undef SIDE
@@ -55,12 +62,18 @@ static uint8_t library_copies[COPIES][AM33C93A_IMAGE_LENGTH];
 #define OTHER "before"
 #define OTHER_SIDE "an earlier library"
 #define RATIO "%8.2f"
-static uint8_t model_state[AM33C93A_IMAGE_LENGTH], model_saved[AM33C93A_IMAGE_LENGTH];
-static uint8_t model_copies[COPIES][AM33C93A_IMAGE_LENGTH];
+static uint8_t model_state[ROOM], model_saved[ROOM], model_copies[COPIES][ROOM];
 #define ENTRY(name) before_##name
-#define STATE model_state, AM33C93A_IMAGE_LENGTH
-#define COPY(i) model_copies[i], AM33C93A_IMAGE_LENGTH
+#define STATE model_state, model_length
+#define COPY(i) model_copies[i], model_length
 #define model_at_pointer model_state[25]
+static int images_fit(void)
+{
+    library_length = am33c93a_image_length();
+    model_length = before_image_length();
+    printf("Images of the library: %u bytes, before: %u.\n", (unsigned)library_length, (unsigned)model_length);
+    return library_length <= ROOM && model_length <= ROOM;
+}
 #else
 #define OTHER "Rust"
 #define OTHER_SIDE "the model in Rust"
@@ -70,6 +83,7 @@ static struct model model_state, model_saved, model_copies[COPIES];
 #define STATE &model_state
 #define COPY(i) &model_copies[i]
 #define model_at_pointer model_state.bytes[0]
+static int images_fit(void) { return am33c93a_image_length() == ROOM; }
 #endif
 #define SIDE(name) model_##name
 #include "work.h"
@@ -218,12 +232,16 @@ static void print_time(double nanoseconds)
 int main(void)
 {
     stay_here();
+    if (!images_fit()) {
+        printf("bench: the images do not fit into %d bytes\n", ROOM);
+        return 1;
+    }
     for (size_t i = 0; i < sizeof sent; i++) sent[i] = (uint8_t)(i * 2654435761u >> 13);
     printf("Nanoseconds per call: the library (an image of %d bytes lent to each call), " OTHER_SIDE " and plain C over a struct.\n"
            "One core, best of 7 runs. 'two calls', 'four calls': for all of them. 'restored': the state by memcpy, its own time\n"
            "subtracted. 1 MiB: a whole Select-And-Transfer, each byte compared at the end; polled: Request, auxiliary read, access;\n"
            "by blocks: slices of 4096 bytes lent, of which 12 move, then 12 Requests.\n",
-           AM33C93A_IMAGE_LENGTH);
+           (int)library_length);
     printf("%-46s %9s    %9s    %9s    %8s %8s\n", "", "library", OTHER, "C", "to " OTHER, "to C");
     for (size_t i = 0; i < sizeof items / sizeof items[0]; i++) {
         const struct item *item = &items[i];

@@ -47,7 +47,7 @@ uint32_t am33c93a_free(uint8_t *image, uint64_t length);
 /* What the controller drives on the bus (AM33C93A_LINES_ below); changes nothing. */
 uint32_t am33c93a_lines(const uint8_t *image, uint64_t length);
 
-#define AM33C93A_IMAGE_LENGTH 53
+#define AM33C93A_IMAGE_LENGTH 54
 
 #define AM33C93A_ANSWER(result) ((result) & 0xffu) /* the number of an answer */
 #define AM33C93A_VALUE(result) ((result) >> 8)     /* its value */

@@ -19,6 +19,7 @@
 #include "am33c93a.h"
 
 enum { LENGTH = AM33C93A_IMAGE_LENGTH, LONGEST = 64, FIFO = 12, OFFSETS = 16, READ = 0, WRITE = 1 };
+enum { AT_POINTER = 25, AT_WAITING = 40, AT_OLDEST = 41 }; /* docs/IMAGE.md */
 enum entry { FRESH, POINTER, AUXILIARY, REGISTER, BLOCK, TIME, ANSWER, RESELECTION, REQUEST, FREE, LINES, ENTRIES };
 
 /* One call: up to three operands, and a block's slice. */
@@ -73,9 +74,11 @@ static void get(uint8_t *image, uint32_t address)
     am33c93a_register(image, LENGTH, READ, 0);
 }
 
-/* Transfer Info of this phase, count 200; coming in, so many bytes wait: 80h, 81h .. The pointer is at the Data register. */
-static void transferring(uint8_t *image, uint32_t phase, unsigned waiting)
+/* Transfer Info of this phase, count 200; so many bytes wait: 80h, 81h .. The pointer is at the Data register. Other bytes have gone through
+ * before, so that the oldest stands in this place of the FIFO and, with enough waiting, the newest over its end (docs/IMAGE.md). */
+static void transferring(uint8_t *image, uint32_t phase, unsigned oldest, unsigned waiting)
 {
+    bool comes_in = phase & 1;
     am33c93a_fresh(image, LENGTH);
     put(image, AM33C93A_COMMAND, AM33C93A_SELECT);
     am33c93a_answer(image, LENGTH);
@@ -84,19 +87,30 @@ static void transferring(uint8_t *image, uint32_t phase, unsigned waiting)
     get(image, AM33C93A_SCSI_STATUS);
     put(image, AM33C93A_COUNT_LOW, 200);
     put(image, AM33C93A_COMMAND, AM33C93A_TRANSFER_INFO);
-    for (unsigned i = 0; i < waiting; i++) am33c93a_request(image, LENGTH, phase, 0x80 + i, 0);
     am33c93a_pointer(image, LENGTH, WRITE, AM33C93A_DATA);
+    for (unsigned i = 0; i < oldest + waiting; i++) {
+        bool goes = i < oldest;
+        uint32_t byte = goes ? 0xEE : 0x80 + i - oldest;
+        if (comes_in) am33c93a_request(image, LENGTH, phase, byte, 0);
+        else am33c93a_register(image, LENGTH, WRITE, byte);
+        if (goes && comes_in) am33c93a_register(image, LENGTH, READ, 0);
+        if (goes && !comes_in) am33c93a_request(image, LENGTH, phase, 0, 0);
+    }
 }
 
-enum { STATES = 5 };
+enum { STATES = 9 };
 
 static void begin(uint8_t *image, int state)
 {
     switch (state) {
     case 0: am33c93a_fresh(image, LENGTH); break;
-    case 1: transferring(image, AM33C93A_DATA_OUT, 0); break;
-    case 2: transferring(image, AM33C93A_DATA_IN, 5); break;
-    case 3: transferring(image, AM33C93A_MESSAGE_IN, FIFO); break;
+    case 1: transferring(image, AM33C93A_DATA_OUT, 0, 0); break;
+    case 2: transferring(image, AM33C93A_DATA_IN, 0, 5); break;
+    case 3: transferring(image, AM33C93A_MESSAGE_IN, 0, FIFO); break;
+    case 4: transferring(image, AM33C93A_DATA_IN, FIFO - 1, 5); break;
+    case 5: transferring(image, AM33C93A_DATA_IN, 7, FIFO); break;
+    case 6: transferring(image, AM33C93A_DATA_OUT, FIFO - 1, 0); break;
+    case 7: transferring(image, AM33C93A_DATA_OUT, 8, 3); break;
     default:
         am33c93a_fresh(image, LENGTH);
         put(image, AM33C93A_COMMAND, AM33C93A_SELECT_TRANSFER_WITH_ATN);
@@ -218,24 +232,33 @@ static void on_the_heap(const uint8_t *image, struct call x)
 }
 
 /* The number that a block moves: all that waits, or all that there is room for, and no more than the slice holds. */
-static void block_lengths(void)
+static void block_length(unsigned oldest, unsigned waiting, size_t n, uint32_t mark)
 {
     uint8_t image[LENGTH], data[LONGEST];
-    for (unsigned waiting = 0; waiting <= FIFO; waiting++)
-        for (size_t n = 0; n <= LONGEST; n++)
-            for (uint32_t mark = 0; mark < 2; mark++) {
-                if (mark == READ) transferring(image, AM33C93A_DATA_IN, waiting);
-                else transferring(image, AM33C93A_DATA_OUT, 0);
-                for (unsigned i = 0; mark == WRITE && i < waiting; i++) am33c93a_register(image, LENGTH, WRITE, i);
-                size_t most = mark == READ ? waiting : FIFO - waiting, moved = n < most ? n : most;
-                fill(data, n);
-                uint32_t r = tried(image, LENGTH, &(struct call){BLOCK, mark, 0, 0, n ? data : NULL, n});
-                check(r == moved << 8, "a block moved another number", (long)n, (long)waiting);
-                for (size_t i = 0; i < n; i++) {
-                    uint8_t byte = mark == READ && i < moved ? (uint8_t)(0x80 + i) : (uint8_t)(0xC0 ^ i);
-                    check(data[i] == byte, "a byte of a slice", (long)n, (long)i);
-                }
-            }
+    transferring(image, mark == READ ? AM33C93A_DATA_IN : AM33C93A_DATA_OUT, oldest, waiting);
+    check(image[AT_WAITING] == waiting && image[AT_OLDEST] == oldest, "a FIFO has travelled elsewhere", oldest, waiting);
+    size_t most = mark == READ ? waiting : FIFO - waiting, moved = n < most ? n : most;
+    fill(data, n);
+    uint32_t r = tried(image, LENGTH, &(struct call){BLOCK, mark, 0, 0, n ? data : NULL, n});
+    check(r == moved << 8, "a block moved another number", (long)n, (long)waiting);
+    for (size_t i = 0; i < n; i++) {
+        uint8_t byte = mark == READ && i < moved ? (uint8_t)(0x80 + i) : (uint8_t)(0xC0 ^ i);
+        check(data[i] == byte, "a byte of a slice", (long)n, (long)i);
+    }
+    /* What was written goes out behind what waited. */
+    for (size_t i = 0; mark == WRITE && i < waiting + moved; i++) {
+        uint32_t byte = i < waiting ? (uint32_t)(0x80 + i) : (uint32_t)(0xC0 ^ (i - waiting));
+        check(am33c93a_request(image, LENGTH, AM33C93A_DATA_OUT, 0, 0) == byte << 8, "a byte that went out", (long)n, (long)i);
+    }
+}
+
+/* From every place of the oldest byte: a move goes over the end of the places, or up to it, or not so far. */
+static void block_lengths(void)
+{
+    for (unsigned oldest = 0; oldest < FIFO; oldest++)
+        for (unsigned waiting = 0; waiting <= FIFO; waiting++)
+            for (size_t n = 0; n <= LONGEST; n++)
+                for (uint32_t mark = 0; mark < 2; mark++) block_length(oldest, waiting, n, mark);
 }
 
 /* An image of any other length is refused without a look beyond it. */
@@ -380,13 +403,20 @@ UNSEEN static uint32_t takes_a_short_image(uint8_t *image, size_t length, const 
     return right(image, length == LENGTH - 1 ? LENGTH : length, x);
 }
 
+/* Does not go back to the first place where the waiting bytes go over the end. */
+UNSEEN static uint32_t goes_on_behind_the_last_place(uint8_t *image, size_t length, const struct call *x)
+{
+    if (length == LENGTH && image[AT_OLDEST] + image[AT_WAITING] > FIFO) looked_at = image[length];
+    return right(image, length, x);
+}
+
 /* Remembers the pointer from one call to the next, whosever it is. */
 UNSEEN static uint32_t keeps_a_state_of_its_own(uint8_t *image, size_t length, const struct call *x)
 {
     static uint8_t pointer;
-    if (length == LENGTH && x->entry == REGISTER && pointer != 0) image[25] = pointer;
+    if (length == LENGTH && x->entry == REGISTER && pointer != 0) image[AT_POINTER] = pointer;
     uint32_t r = right(image, length, x);
-    if (length == LENGTH) pointer = image[25];
+    if (length == LENGTH) pointer = image[AT_POINTER];
     return r;
 }
 
@@ -400,6 +430,7 @@ static const struct {
              {"writes beyond the number moved", writes_beyond_the_number_moved},
              {"looks at null", looks_at_null},
              {"takes a short image", takes_a_short_image},
+             {"goes on behind the last place", goes_on_behind_the_last_place},
              {"keeps a state of its own", keeps_a_state_of_its_own}};
 enum { WRONG = sizeof wrong / sizeof wrong[0] };
 

@@ -5,7 +5,8 @@
 #include <string.h>
 #include "am33c93a.h"
 
-enum { LENGTH = AM33C93A_IMAGE_LENGTH, GUARD = 16, SLICE = 20, ENTRIES = 11, BLOCK = 5 };
+enum { LENGTH = AM33C93A_IMAGE_LENGTH, LENGTH_BEFORE = 53, GUARD = 16, SLICE = 20, ENTRIES = 11, BLOCK = 5 };
+enum { WAITING = 40, OLDEST = 41, PLACES = 42, FIFO = 12 }; /* docs/IMAGE.md */
 
 static unsigned long checks, failures;
 
@@ -65,8 +66,8 @@ static void taken(int entry, const uint8_t *image, uint32_t a, uint32_t b, uint3
     check(memcmp(&before, &after, sizeof before) == 0, "a guard byte changed", entry, 0);
 }
 
-/* Lengths beyond 32 bits, two of them 53 in their low half: the library has to be told, and to look at, all 64 bits. So many bytes are not
- * there, but a length that is not 53 is refused before any byte is looked at. */
+/* Lengths beyond 32 bits, two of them 54 in their low half: the library has to be told, and to look at, all 64 bits. So many bytes are not
+ * there, but a length that is not 54 is refused before any byte is looked at. */
 static void all_bits_count(int entry, const uint8_t *fresh)
 {
     static const uint64_t lengths[] = {LENGTH | 1ull << 32, LENGTH | 1ull << 63, 1ull << 32, UINT64_MAX};
@@ -80,7 +81,7 @@ static void all_bits_count(int entry, const uint8_t *fresh)
 }
 
 static const struct { uint8_t at, limit; } ranges[] = {
-    {26, 2}, {27, 2}, {30, 4}, {32, 3}, {33, 2}, {34, 2}, {35, 2}, {36, 9}, {37, 9}, {38, 8}, {40, 13}};
+    {26, 2}, {27, 2}, {30, 4}, {32, 3}, {33, 2}, {34, 2}, {35, 2}, {36, 9}, {37, 9}, {38, 8}, {WAITING, 13}, {OLDEST, 12}};
 
 /* Bytes 28 (what is pending), 29 (the code to come) and 31 (the command that runs) say one thing together, in every combination: INT only
  * where no command runs (paper 02, Req 14), an ending only where one does, a code only with an ending. The pointer stands at 18h, so that the
@@ -99,6 +100,80 @@ static void activities(int entry)
                 if (is_state) taken(entry, image, 1, 0, 0);
                 else refused(entry, image, LENGTH, 1, 0, 0, both ? "INT with a running command was taken" : "no activity's bytes were taken");
             }
+}
+
+/* Any byte may stand in any place of the FIFO, whether one waits there or not. */
+static void any_byte_in_any_place(int entry)
+{
+    for (int v = 1; v < 256; v++)
+        for (int k = 0; k < FIFO; k++) {
+            uint8_t image[LENGTH] = {[WAITING] = (uint8_t)k};
+            image[PLACES + k] = (uint8_t)v;
+            taken(entry, image, 0, 0, 0);
+            image[WAITING] = (uint8_t)(k + 1);
+            taken(entry, image, 0, 0, 0);
+        }
+}
+
+/* Transfer Info of Data In (way 1) or Data Out (way 2), 100 left, the pointer at the Data register. So many bytes wait, the oldest in this
+ * place: 80h, 81h .. In every other place stands unused. */
+static void transferring(uint8_t *image, int way, int waiting, int oldest, uint8_t unused)
+{
+    memset(image, 0, PLACES);
+    memset(image + PLACES, unused, FIFO);
+    image[AM33C93A_COUNT_LOW] = 100;
+    image[25] = AM33C93A_DATA;
+    image[30] = 3;
+    image[31] = 5;
+    image[32] = (uint8_t)way;
+    image[36] = (uint8_t)(1 + (way == 1 ? AM33C93A_DATA_IN : AM33C93A_DATA_OUT));
+    image[WAITING] = (uint8_t)waiting;
+    image[OLDEST] = (uint8_t)oldest;
+    for (int i = 0; i < waiting; i++) image[PLACES + (oldest + i) % FIFO] = (uint8_t)(0x80 + i);
+}
+
+/* Where the waiting bytes stand, and what stands where none waits, is told to nobody: the call is answered as from the first place on, with 0
+ * behind, moves the same bytes, and leaves the same bytes 0 to 40 and the same waiting bytes in their order. */
+static void told_alike(int entry, int way, int waiting, int oldest, uint8_t unused)
+{
+    for (uint32_t a = 0; a < 2; a++) {
+        uint8_t first[LENGTH], other[LENGTH], data[SLICE], other_data[SLICE];
+        transferring(first, way, waiting, 0, 0);
+        transferring(other, way, waiting, oldest, unused);
+        for (int i = 0; i < SLICE; i++) data[i] = other_data[i] = (uint8_t)(0xC0 + i);
+        uint32_t r = call(entry, first, LENGTH, a, 0x77, 0, data, SLICE), s = call(entry, other, LENGTH, a, 0x77, 0, other_data, SLICE);
+        check(AM33C93A_ANSWER(s) != AM33C93A_BAD_NUMBER, "a byte in an unused place was refused", entry, oldest);
+        check(r == s, "a place was told by the answer", entry, oldest);
+        check(memcmp(data, other_data, SLICE) == 0, "a place was told by a lent byte", entry, oldest);
+        check(memcmp(first, other, WAITING + 1) == 0, "a place was told by the image", entry, oldest);
+        int same = 1;
+        for (int i = 0; i < first[WAITING] % (FIFO + 1); i++)
+            same &= first[PLACES + (first[OLDEST] + i) % FIFO] == other[PLACES + (other[OLDEST] + i) % FIFO];
+        check(same, "another byte waits", entry, oldest);
+    }
+}
+
+static void places(int entry)
+{
+    static const uint8_t unused[] = {0, 1, 0x5a, 0xff};
+    any_byte_in_any_place(entry);
+    for (int way = 1; way <= 2; way++)
+        for (int waiting = 0; waiting <= FIFO; waiting++)
+            for (int oldest = 0; oldest < FIFO; oldest++)
+                for (int i = 0; i < 4; i++) told_alike(entry, way, waiting, oldest, unused[i]);
+}
+
+/* The form before this one had no byte 41: an image of it is refused by its length. With a 0 put in behind byte 40 it is taken. */
+static void form_before(int entry)
+{
+    for (int waiting = 0; waiting <= FIFO; waiting++) {
+        uint8_t image[LENGTH], before[LENGTH_BEFORE];
+        transferring(image, 1, waiting, 0, 0);
+        memcpy(before, image, OLDEST);
+        memcpy(before + OLDEST, image + PLACES, FIFO);
+        refused(entry, before, LENGTH_BEFORE, 0, 0, 0, "an image of 53 bytes was taken");
+        taken(entry, image, 0, 0, 0);
+    }
 }
 
 int main(void)
@@ -123,16 +198,8 @@ int main(void)
                 else taken(e, image, 0, 0, 0);
             }
         activities(e);
-        for (int v = 1; v < 256; v++) { /* a byte in an unused place of the FIFO */
-            for (int k = 0; k < 12; k++) {
-                uint8_t other[LENGTH] = {0};
-                other[40] = (uint8_t)k;
-                other[41 + k] = (uint8_t)v;
-                refused(e, other, LENGTH, 0, 0, 0, "a byte in an unused place was taken");
-                other[40] = (uint8_t)(k + 1);
-                taken(e, other, 0, 0, 0);
-            }
-        }
+        places(e);
+        form_before(e);
     }
     for (int i = 0; i < EDGES; i++) {
         uint32_t v = edge[i];

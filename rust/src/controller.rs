@@ -1,6 +1,6 @@
 //! A controller that owns its image.
 //!
-//! Every unsafe call here lends the library the controller's own 53 bytes, or a copy of them, and at most one slice that nobody else
+//! Every unsafe call here lends the library the controller's own 54 bytes, or a copy of them, and at most one slice that nobody else
 //! holds: all that include/am33c93a.h asks of a caller.
 
 use crate::answer::Answer;
@@ -8,7 +8,7 @@ use crate::entries::*;
 use core::fmt;
 
 /// The length of an image in bytes (docs/IMAGE.md).
-pub const IMAGE_LENGTH: usize = 53;
+pub const IMAGE_LENGTH: usize = 54;
 
 /// The same as the library takes it: a length has 64 bits on every target.
 const LENT_LENGTH: u64 = IMAGE_LENGTH as u64;
@@ -50,6 +50,9 @@ impl fmt::Display for NoImage {
 impl core::error::Error for NoImage {}
 
 /// One Am33C93A. Copies are other controllers in the same state.
+///
+/// Equal are those with the same image. Two that differ only in the places of the FIFO where their waiting bytes stand, or in a
+/// place where none waits, are not equal, though nobody is ever told the difference (docs/IMAGE.md).
 #[derive(Clone, PartialEq, Eq, Hash, Debug)]
 pub struct Controller {
     image: [u8; IMAGE_LENGTH],

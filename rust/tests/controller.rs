@@ -125,8 +125,7 @@ fn bytes_that_are_no_image_are_refused() {
         assert_eq!(Controller::from_image(&vec![0; length]), Err(NoImage));
     }
     // Byte and first value out of range (docs/IMAGE.md).
-    let limits =
-        [(26, 2), (27, 2), (30, 4), (32, 3), (33, 2), (34, 2), (35, 2), (36, 9), (37, 9), (38, 8), (40, 13)];
+    let limits = [(26, 2), (27, 2), (30, 4), (32, 3), (33, 2), (34, 2), (35, 2), (36, 9), (37, 9), (38, 8), (40, 13), (41, 12)];
     for (at, limit) in limits {
         for value in 0..=255 {
             let mut image = [0; IMAGE_LENGTH];
@@ -143,11 +142,58 @@ fn bytes_that_are_no_image_are_refused() {
             assert_eq!(Controller::from_image(&image).is_ok(), is_state, "byte 28 is {pending}, byte 31 is {command}");
         }
     }
-    for at in [29].into_iter().chain(41..IMAGE_LENGTH) {
-        let mut image = [0; IMAGE_LENGTH];
-        image[at] = 1;
-        assert_eq!(Controller::from_image(&image), Err(NoImage), "byte {at}");
+    let mut image = [0; IMAGE_LENGTH];
+    image[29] = 1;
+    assert_eq!(Controller::from_image(&image), Err(NoImage), "a code, and no ending");
+}
+
+#[test]
+fn places_of_the_fifo_hold_any_byte() {
+    for at in 42..IMAGE_LENGTH {
+        for value in 0..=255 {
+            let mut image = [0; IMAGE_LENGTH];
+            image[at] = value;
+            assert_eq!(Controller::from_image(&image).map(|chip| *chip.image()), Ok(image), "byte {at} is {value}");
+        }
     }
+}
+
+/// The same waiting bytes from this place on, and this byte in the other places (docs/IMAGE.md).
+fn moved(chip: &Controller, oldest: usize, unused: u8) -> Controller {
+    let (old, waiting) = (chip.image(), usize::from(chip.image()[40]));
+    let mut image = *old;
+    image[41] = oldest as u8;
+    image[42..].fill(unused);
+    (0..waiting).for_each(|n| image[42 + (oldest + n) % 12] = old[42 + (usize::from(old[41]) + n) % 12]);
+    Controller::from_image(&image).unwrap()
+}
+
+#[test]
+fn nobody_is_told_where_a_byte_stands() {
+    for waiting in 0..=12 {
+        let mut chip = transferring(Phase::DataIn, 200);
+        (0..waiting).for_each(|n| assert_eq!(good(&mut chip, Phase::DataIn, 0x40 + n), Answer::Done(u32::from(0x40 + n))));
+        chip.set_pointer(register::DATA);
+        for (oldest, unused) in (0..12).flat_map(|oldest| [(oldest, 0), (oldest, 0xff)]) {
+            let (mut one, mut other) = (chip.clone(), moved(&chip, oldest, unused));
+            let (mut of_one, mut of_other) = ([0xee; 7], [0xee; 7]);
+            assert_eq!(good(&mut one, Phase::DataIn, 0x99), good(&mut other, Phase::DataIn, 0x99));
+            assert_eq!(one.read_register(), other.read_register());
+            assert_eq!(one.read_block(&mut of_one), other.read_block(&mut of_other));
+            assert_eq!(of_one, of_other);
+            assert_eq!((one.auxiliary(), one.lines()), (other.auxiliary(), other.lines()));
+            assert_eq!(one.image()[..=40], other.image()[..=40]);
+        }
+    }
+}
+
+#[test]
+fn an_image_of_53_bytes_comes_back_with_a_0_behind_byte_40() {
+    let mut chip = transferring(Phase::DataIn, 200);
+    good(&mut chip, Phase::DataIn, 0x77);
+    let before: Vec<u8> = [&chip.image()[..41], &chip.image()[42..]].concat();
+    assert_eq!(Controller::from_image(&before), Err(NoImage));
+    assert_eq!(Controller::from_image(&[&before[..41], &[0], &before[41..]].concat()), Ok(chip));
 }
 
 #[test]

@@ -56,6 +56,24 @@ impl Guide {
         }
     }
 
+    /// The same where the FIFO is what is asked about: more of what moves waiting bytes, ends their transfer or drops them.
+    pub fn next_of_traffic(&mut self, state: &Controller, random: &mut Random) -> Call {
+        if self.next.is_empty() {
+            match random.below(100) {
+                0..=34 => (0..1 + random.below(8)).for_each(|_| self.push(Guide::target_turn(state, random))),
+                35..=64 => self.move_data(state, random),
+                65..=67 => self.command(0x04, random),
+                68..=69 => self.command(0x01, random),
+                70 => self.command(0x00, random),
+                71..=72 => self.push(Call::Free),
+                73..=74 => self.any_request(random),
+                75..=77 => self.transfer_or_resume(random),
+                _ => {}
+            }
+        }
+        self.next_call(state, random)
+    }
+
     fn plan(&mut self, state: &Controller, random: &mut Random) {
         let turn = random.below(1000);
         if state.has_interrupt() {

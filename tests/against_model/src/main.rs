@@ -1,10 +1,11 @@
 //! The proved library against the independent model (tests/model): the same calls to both; after each, the number returned, the
-//! lent slice and all 53 bytes of the image are compared.
+//! lent slice and all 54 bytes of the image are compared.
 //!
 //!     against_model [SEED [CALLS [-v]]]
 //!
 //! First the named cases are replayed, then models that are wrong on purpose must be caught, then the run. A difference is shrunk
-//! to a short list of calls, printed as cases.txt writes them; give it a name there.
+//! to a short list of calls, printed as cases.txt writes them; give it a name there. At the end, with a quarter as many calls, the
+//! library beside itself: nobody is told where the FIFO's bytes stand (twins.rs).
 
 mod call;
 mod cases;
@@ -14,6 +15,7 @@ mod images;
 // The declarations that rust/ uses: one list for both.
 #[path = "../../../rust/src/entries.rs"]
 mod library;
+mod misplacement;
 mod mistakes;
 mod mistranslation;
 mod noise;
@@ -23,6 +25,7 @@ mod run;
 mod seen;
 mod shrink;
 mod told;
+mod twins;
 
 use call::Call;
 use mistakes::Mistake;
@@ -33,6 +36,8 @@ use std::process::ExitCode;
 /// A wrong model is caught within so many calls, and told in so few.
 const CAUGHT_WITHIN: u64 = 1_000_000;
 const SHORT: usize = 50;
+/// So many calls to twins do everything to a FIFO that can be done.
+const ENOUGH_TRAFFIC: u64 = 100_000;
 
 /// Plays episodes until a difference or until so many calls are made.
 fn run(seed: u64, calls: u64, mistake: Option<Mistake>, seen: &mut Seen) -> (u64, Option<Vec<Call>>) {
@@ -109,6 +114,24 @@ fn agrees(seed: u64, calls: u64, is_verbose: bool) -> bool {
     true
 }
 
+fn tells_no_places(seed: u64, calls: u64, is_verbose: bool) -> bool {
+    let is_missed = |library: &twins::Library| !twins::Run::of(*library, seed, CAUGHT_WITHIN, false).is_apart;
+    let missed: Vec<&str> = twins::WRONG.iter().filter(|(_, library)| is_missed(library)).map(|(name, _)| *name).collect();
+    missed.iter().for_each(|name| println!("against model: a library that {name} is not told from the right one"));
+    println!("against model: {} libraries that tell of their places, {} missed", twins::WRONG.len(), missed.len());
+    let run = twins::Run::of(twins::right, seed, calls, true);
+    if is_verbose {
+        run.traffic.print();
+    }
+    let (missing, apart) = (run.traffic.missing(), u32::from(run.is_apart));
+    if run.calls >= ENOUGH_TRAFFIC && !missing.is_empty() {
+        println!("against model: never done to the FIFO of twins: {}", missing.join(", "));
+        return false;
+    }
+    println!("against model: seed {seed}, {} pairs with other places, {} calls, {apart} told apart", run.pairs, run.calls);
+    missed.is_empty() && !run.is_apart && run.pairs > 0 && run.calls > 0
+}
+
 fn main() -> ExitCode {
     let arguments: Vec<String> = std::env::args().skip(1).collect();
     let number = |n: usize, default: u64| arguments.get(n).map_or(Ok(default), |text| text.parse());
@@ -117,6 +140,11 @@ fn main() -> ExitCode {
         return ExitCode::from(2);
     };
     let is_verbose = arguments.get(2).is_some_and(|word| word == "-v");
-    let all = [replays_cases(), catches_mistakes(seed, is_verbose), agrees(seed, calls, is_verbose)];
+    let all = [
+        replays_cases(),
+        catches_mistakes(seed, is_verbose),
+        agrees(seed, calls, is_verbose),
+        tells_no_places(seed, calls / 4, is_verbose),
+    ];
     ExitCode::from(u8::from(all.contains(&false)))
 }

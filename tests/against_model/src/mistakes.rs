@@ -1,8 +1,10 @@
 //! Models that are wrong on purpose: the run has to catch each, or it proves nothing. The first four are the paper's "Readings to
 //! shut out"; then some of its programs that "have to fall"; then the fault that the library is proved against, and one like it; then
-//! three that paper 02's Req 14 shuts out; then mistakes that are easily made, those of Translate Address last.
+//! three that paper 02's Req 14 shuts out; then mistakes that are easily made, those of Translate Address and of the FIFO's places
+//! last.
 
 use crate::call::{Call, Slice};
+use crate::misplacement::{self, Misplacement};
 use crate::mistranslation::{mistranslate, Mistranslation};
 use model::{Answer, Connection, Controller, Image, Pending, Running, Way};
 
@@ -31,10 +33,11 @@ pub enum Mistake {
     StatusKeepsOutgoingFifo,
     LunTakenForBusIdentity,
     Translation(Mistranslation),
+    Places(Misplacement),
 }
 
 impl Mistake {
-    pub const ALL: [Mistake; 32] = [
+    pub const ALL: [Mistake; 40] = [
         Mistake::CountFallsOnHostWrite,
         Mistake::AuxiliaryReadClearsInt,
         Mistake::SuccessCodeBeforeReadOut,
@@ -67,6 +70,14 @@ impl Mistake {
         Mistake::Translation(Mistranslation::Heads15Refused),
         Mistake::Translation(Mistranslation::NoPlaceIsWritten),
         Mistake::Translation(Mistranslation::TakenWhenConnected),
+        Mistake::Places(Misplacement::TakenByteWiped),
+        Mistake::Places(Misplacement::OthersMoveUp),
+        Mistake::Places(Misplacement::DropKeepsTheEnd),
+        Mistake::Places(Misplacement::DropWipesThePlaces),
+        Mistake::Places(Misplacement::ReadOutGoesToTheFirstPlace),
+        Mistake::Places(Misplacement::ResetKeepsThePlaces),
+        Mistake::Places(Misplacement::PlaceTwelveIsThere),
+        Mistake::Places(Misplacement::UnusedPlaceRefused),
     ];
 
     /// The state that lent bytes say to a model with the mistake.
@@ -75,6 +86,9 @@ impl Mistake {
         if self == Mistake::IntWithARunningCommandIsAState && bytes[28] == 1 && bytes[31] != 0 {
             bytes[28] = 0;
             return Controller::from_image(&bytes).map(|state| Controller { pending: Pending::Interrupt, ..state });
+        }
+        if let Mistake::Places(wrongly) = self {
+            return misplacement::state_of(wrongly, image);
         }
         Controller::from_image(&bytes)
     }
@@ -189,6 +203,7 @@ impl Mistake {
             {
                 mistranslate(wrongly, &before, state);
             }
+            (Mistake::Places(wrongly), _, _) => state.fifo = misplacement::misplace(wrongly, &before.fifo, &state.fifo),
             _ => {}
         }
         answer

@@ -1,4 +1,5 @@
-//! "The FIFO holds 12 bytes (house)": a ring in which the ends travel.
+//! "The FIFO holds 12 bytes (house)": a ring in which the ends travel. Every place shows in the image (docs/IMAGE.md), also one in
+//! which no byte waits, so a byte stays where it was put until another is put there.
 
 pub const FIFO_SIZE: usize = 12;
 
@@ -10,6 +11,22 @@ pub struct Fifo {
 }
 
 impl Fifo {
+    /// So many bytes wait, the oldest in this place. None if there are not so many places.
+    pub fn of(waiting: u8, oldest: u8, bytes: [u8; FIFO_SIZE]) -> Option<Fifo> {
+        let is_fifo = usize::from(waiting) <= FIFO_SIZE && usize::from(oldest) < FIFO_SIZE;
+        is_fifo.then_some(Fifo { bytes, oldest, waiting })
+    }
+
+    /// What stands in the twelve places, whether it waits or not.
+    pub fn places(&self) -> &[u8; FIFO_SIZE] {
+        &self.bytes
+    }
+
+    /// The place of the oldest byte; where none waits, the place that the next one comes to.
+    pub fn oldest(&self) -> u8 {
+        self.oldest
+    }
+
     pub fn waiting(&self) -> usize {
         self.waiting as usize
     }
@@ -43,7 +60,7 @@ impl Fifo {
         self.waiting += 1;
     }
 
-    /// The oldest byte; one must wait.
+    /// The oldest byte; one must wait. After the last one the next place is still the oldest's: only `clear` goes back to the first.
     pub fn take(&mut self) -> u8 {
         assert!(!self.is_empty());
         let byte = self.byte(0);
@@ -52,7 +69,9 @@ impl Fifo {
         byte
     }
 
+    /// The ends go back to the first place; the bytes stay in theirs.
     pub fn clear(&mut self) {
+        self.oldest = 0;
         self.waiting = 0;
     }
 }

@@ -1,9 +1,9 @@
-//! The 53 bytes of docs/IMAGE.md.
+//! The 54 bytes of docs/IMAGE.md.
 
-use crate::fifo::{Fifo, FIFO_SIZE};
+use crate::fifo::Fifo;
 use crate::state::{BusId, Connection, Controller, Pending, Phase, Running, Way};
 
-pub const IMAGE_LENGTH: usize = 53;
+pub const IMAGE_LENGTH: usize = 54;
 pub type Image = [u8; IMAGE_LENGTH];
 
 fn phase_byte(phase: Option<Phase>) -> u8 {
@@ -51,17 +51,6 @@ fn way_in(byte: u8) -> Option<Way> {
     [Way::NotFixed, Way::In, Way::Out].get(byte as usize).copied()
 }
 
-/// The waiting bytes, the oldest first; 0 in the places that are not used.
-fn fifo_in(waiting: u8, places: &[u8]) -> Option<Fifo> {
-    if usize::from(waiting) > FIFO_SIZE {
-        return None;
-    }
-    let (used, unused) = places.split_at(waiting.into());
-    let mut fifo = Fifo::default();
-    used.iter().for_each(|byte| fifo.put(*byte));
-    unused.iter().all(|byte| *byte == 0).then_some(fifo)
-}
-
 impl Controller {
     pub fn image(&self) -> Image {
         let mut image = [0; IMAGE_LENGTH];
@@ -80,7 +69,7 @@ impl Controller {
             Running::SelectAndTransfer { with_atn } => 4 - u8::from(with_atn),
             Running::TransferInfo => 5,
         };
-        image[0x17..0x29].copy_from_slice(&[
+        image[0x17..0x2a].copy_from_slice(&[
             self.code,
             self.command,
             self.pointer,
@@ -99,10 +88,9 @@ impl Controller {
             self.own.number(),
             self.elapsed,
             self.fifo.waiting() as u8,
+            self.fifo.oldest(),
         ]);
-        for n in 0..self.fifo.waiting() {
-            image[0x29 + n] = self.fifo.byte(n);
-        }
+        image[0x2a..].copy_from_slice(self.fifo.places());
         image
     }
 
@@ -126,7 +114,7 @@ impl Controller {
             last_phase: phase_in(image[0x25])?,
             own: (image[0x26] <= 7).then(|| BusId::from_low_bits(image[0x26]))?,
             elapsed: image[0x27],
-            fifo: fifo_in(image[0x28], &image[0x29..])?,
+            fifo: Fifo::of(image[0x28], image[0x29], image[0x2a..].try_into().ok()?)?,
             ..Controller::default()
         };
         for address in 0..0x17 {
