@@ -6,19 +6,19 @@ use mathlib.Core.List.{List, _++_}
 use Prim.Native.Nat.{ℕ, _/_, _%_}
 use lib.Dec.{eqb}
 use native.Mathlib.Omega.{arith}
-use lib.ListN.{length, set, take, drop, length-append}
+use lib.ListN.{length, set, take, length-append}
 use borrow.Author.Tests.{eq-eqb}
 use Rattle.chip.specs.Choice.{pick}
 use Rattle.chip.specs.declared.State.{State}
 use Rattle.chip.specs.declared.Fifo.{Fifo}
 use Rattle.chip.specs.declared.Noted.{Noted}
-use Rattle.chip.specs.Fifo.{push, fifoBytes, newestIn, Whole}
+use Rattle.chip.specs.Fifo.{fifoBytes, Whole}
 use Rattle.chip.specs.State.{fresh, setPointer, setFifo, setCount, setLast}
 use Rattle.chip.specs.Image.{imageOf, stateOf, notedByte, imageLength, fifoPlace}
-use Rattle.chip.proofs.FifoLaws.{keeps-bytes, fifo-length}
+use Rattle.chip.proofs.FifoLaws.{fifo-length}
 use Rattle.chip.proofs.ImagePlaces.{head-length, middle-length}
 use Rattle.image.specs.IsImage.{IsImage}
-use Rattle.chip.proofs.ImageFields.{Long, long, pointer-stored, last-stored, low-stored, newest-stored, fifo-stored}
+use Rattle.chip.proofs.ImageFields.{Long, long, pointer-stored, last-stored, low-stored, fifo-stored}
 use Rattle.controller.proofs.Entry.{long-enough, pick-true}
 
 pub record At (l : List ℕ) (t : State) : Type 0 where
@@ -83,16 +83,4 @@ module _ {l : List ℕ} {t : State} (a : At l t) where
             ∙ sym (fifo-stored q t (a .long));
         long = record { cdb-long = a .long .cdb-long };
         fifo = u;
-      }
-
-  pub put-newest-at : (after : List ℕ) (b : ℕ)
-      → after ≡ pick (eqb (length l) imageLength) (take fifoPlace l ++ newestIn b (drop fifoPlace l)) l
-      → At after (setFifo (push b (t .fifo)) t)
-  put-newest-at after b e =
-      record {
-        image =
-            e ∙ pick-true _ _ _ whole ∙ ap (λ (x : List ℕ). take fifoPlace x ++ newestIn b (drop fifoPlace x)) (a .image)
-            ∙ sym (newest-stored b t (a .long));
-        long = record { cdb-long = a .long .cdb-long };
-        fifo = keeps-bytes .push-whole (t .fifo) b (a .fifo);
       }

@@ -1,42 +1,46 @@
 -- What the stores of each call served in place (in_place.rt) leave: the call's own reply, by chip's proofs/Moves.antt. The bytes l are
 -- an image; t is their state as the code reads it, and `after..` are the bytes after each store.
-use mathlib.Core.Path.{_≡_, refl, ap, sym, _∙_}
+use mathlib.Core.Path.{_≡_, refl, ap, sym, subst, _∙_}
 use mathlib.Core.Bool.{Bool, true, false}
 use mathlib.Core.List.{List, [], _++_}
 use Prim.Native.Nat.{ℕ, _+_, _-_, _*_, _%_, _<_, _≤_}
 use native.Mathlib.Nat.{zero-add}
 use native.Mathlib.Omega.{arith}
 use lib.Dec.{eqb, ltb}
-use lib.ListN.{length, getD, set, take, drop, length-set}
+use lib.ListN.{length, getD, set, take, length-set}
 use borrow.Author.Tests.{eq-eqb, ne-eqb, lt-ltb}
 use Rattle.chip.specs.Choice.{pick, both}
 use Rattle.chip.specs.Calls.{isSet}
 use Rattle.chip.specs.declared.State.{State}
 use Rattle.chip.specs.declared.Fifo.{Fifo}
 use Rattle.chip.specs.declared.Reply.{Reply}
-use Rattle.chip.specs.declared.Answer.the-variants.{Done, Held, ReselectionIgnored}
+use Rattle.chip.specs.declared.Answer.the-variants.{Done, Held, ReselectionIgnored, NoDataNow}
+use Rattle.chip.specs.declared.Direction.the-variants.{In}
+use Rattle.chip.specs.declared.Phase.{Phase}
 use Rattle.chip.specs.declared.Phase.the-variants.{DataIn, DataOut}
 use Rattle.chip.specs.declared.Noted.the-variants.{Was}
 use Rattle.chip.specs.Answers.{done}
 use Rattle.chip.specs.Entries.{result}
-use Rattle.chip.specs.Fifo.{isEmpty, hasRoom, front, pop, push, fifoBytes, newestIn, Whole}
+use Rattle.chip.specs.Fifo.{isEmpty, hasRoom, front, pop, push, fifoBytes, Goes}
 use Rattle.chip.specs.State.{fresh, setPointer, setFifo, setCount, setLast}
 use Rattle.chip.specs.Image.{imageOf, stateOf, imageLength, fifoPlace}
 use Rattle.chip.specs.Phases.{phaseOf}
 use Rattle.chip.specs.Registers.{Moved, accessed, accessedAt, auxiliaryRead, pointerRead, pointerSet, stored, registerAt, blockRead, blockWritten}
 use Rattle.chip.specs.Events.{requested, passed, selects, reselected}
-use Rattle.chip.specs.Interrupts.{inEnding}
+use Rattle.chip.specs.Interrupts.{inEnding, settled}
+use Rattle.chip.specs.Ok.{Ok}
 use Rattle.chip.specs.Lines.{qualifies}
 use Rattle.chip.proofs.FifoLaws.{keeps-bytes}
+use Rattle.chip.proofs.FifoSteps.{requested-goes}
 use Rattle.image.specs.IsImage.{IsImage}
-use Rattle.chip.proofs.ImageFields.{fifo-stored}
-use Rattle.blocks.proofs.Blocks.{written-alone, written-bytes, read-alone}
+use Rattle.blocks.proofs.Blocks.{written-bytes}
+use Rattle.blocks.proofs.InImage.{image-is, said as image-says}
 use Rattle.chip.proofs.ImageRegisters.{register-at, register-and-pointer}
 use Rattle.chip.specs.Moves.{isPlain, readsData, writesData, takesData, sendsData}
-use Rattle.chip.proofs.Moves.{below, plain-read, plain-write, data-read, data-write, low, taking, byte-taken, in-held, sending, byte-sent, out-held}
+use Rattle.chip.proofs.Moves.{below, plain-read, plain-write, data-read, data-write, coming-in, nothing-read, nothing-written, settled-quiet, low, taking, byte-taken, in-held, sending, byte-sent, out-held}
 use Rattle.controller.specs.Returns.{Returns, ReturnsMoved}
 use Rattle.controller.proofs.Entry.{long-enough, pick-true, pick-false, and-true, finished}
-use Rattle.controller.proofs.InPlace.{At, at-start, fits, state-is, put-pointer-at, put-last-at, put-low-at, put-fifo-at, put-newest-at}
+use Rattle.controller.proofs.InPlace.{At, at-start, fits, state-is, put-pointer-at, put-last-at, put-low-at, put-fifo-at}
 
 -- a reply as it is computed
 replied : (p r : Reply) (n : ℕ) (after : List ℕ) → p ≡ r → Returns r n after → Returns p n after
@@ -118,27 +122,78 @@ module _ (l : List ℕ) (o : IsImage l) where
         image = put-pointer-at start after next f .image;
       })
 
-  pub data-given : (b : ℕ) (t : State) (q : Fifo) (f : ℕ) (after : List ℕ) → t ≡ pick (eqb (length l) imageLength) (stateOf l) fresh
-      → q ≡ pop (t .fifo) → f ≡ front (t .fifo) → readsData (stateOf l) ≡ true
-      → after ≡ pick (eqb (length l) imageLength) (take fifoPlace l ++ fifoBytes q) l
-      → Returns (accessed false b (stateOf l)) (256 * f) after
-  data-given b t q f after e p h d g =
-      let i = state-is l t o e in
-      let p′ : q ≡ pop (stateOf l .fifo) = p ∙ ap (λ (x : State). pop (x .fifo)) i in
-      let n : Whole q = rw p′ (keeps-bytes .pop-whole (stateOf l .fifo) (start .fifo)) in
-      let k = put-fifo-at start after q n g in
-      replied _ _ _ _ (data-read (stateOf l) d b)
-      (record {
-        number = ap (λ (x : ℕ). 256 * x) (h ∙ ap (λ (x : State). front (x .fifo)) i) ∙ sym (zero-add _);
-        image = k .image ∙ ap (λ (x : Fifo). imageOf (setFifo x (stateOf l))) p′;
-      })
+  -- after the first store, of the FIFO without its oldest byte, or with one more
+
+  popped : (after : List ℕ) → after ≡ pick (eqb (length l) imageLength) (take fifoPlace l ++ fifoBytes (pop (stateOf l .fifo))) l
+      → At after (setFifo (pop (stateOf l .fifo)) (stateOf l))
+  popped after g = put-fifo-at start after (pop (stateOf l .fifo)) (keeps-bytes .pop-whole (stateOf l .fifo) (start .fifo)) g
+
+  pushed : (b : ℕ) (after : List ℕ) → after ≡ pick (eqb (length l) imageLength) (take fifoPlace l ++ fifoBytes (push b (stateOf l .fifo))) l
+      → At after (setFifo (push b (stateOf l .fifo)) (stateOf l))
+  pushed b after g = put-fifo-at start after (push b (stateOf l .fifo)) (keeps-bytes .push-whole (stateOf l .fifo) b (start .fifo)) g
+
+  -- the oldest byte, as it is read off the image
+  oldest : (x : ℕ) → x ≡ pick (eqb (length l) imageLength) (front (stateOf l .fifo)) 0 → x ≡ front (stateOf l .fifo)
+  oldest x e = e ∙ pick-true _ _ _ (long-enough l (o .valid))
+
+  module _ (after : List ℕ) (g : after ≡ pick (eqb (length l) imageLength) (take fifoPlace l ++ fifoBytes (pop (stateOf l .fifo))) l) where
+    popped-ok : Ok (setFifo (pop (stateOf l .fifo)) (stateOf l))
+    popped-ok =
+        record {
+          cdb-long = o .ok .cdb-long;
+          count-below = o .ok .count-below;
+          identity-below = o .ok .identity-below;
+          fifo = keeps-bytes .pop-whole (stateOf l .fifo) (start .fifo);
+        }
+
+    pub popped-image : IsImage after
+    popped-image = image-is after _ popped-ok (popped after g .image)
+
+    popped-state : stateOf after ≡ setFifo (pop (stateOf l .fifo)) (stateOf l)
+    popped-state = image-says after _ popped-ok (popped after g .image)
+
+    pub popped-in : readsData (stateOf l) ≡ true → stateOf after .transfer .direction ≡ In
+    popped-in d = ap (λ (x : State). x .transfer .direction) popped-state ∙ coming-in (stateOf l) d
+
+    -- a read of the Data register: where no ending is under way, and where one settles
+    pub data-given : (b f : ℕ) (t : State) (r : Bool) → readsData (stateOf l) ≡ true
+        → f ≡ pick (eqb (length l) imageLength) (front (stateOf l .fifo)) 0
+        → t ≡ pick (eqb (length l) imageLength) (stateOf l) fresh → r ≡ inEnding t → r ≡ false
+        → Returns (accessed false b (stateOf l)) (256 * f) after
+    data-given b f t r d h e i c =
+        let calm : inEnding (stateOf l) ≡ false = sym (ap inEnding (state-is l t o e)) ∙ sym i ∙ c in
+        replied _ _ _ _ (data-read (stateOf l) d b)
+        (record {
+          number = ap (λ (x : ℕ). 256 * x) (oldest f h) ∙ sym (zero-add _);
+          image = popped after g .image ∙ ap imageOf (sym (settled-quiet (setFifo (pop (stateOf l .fifo)) (stateOf l)) calm));
+        })
+
+    pub data-settled : (b f : ℕ) (after₂ : List ℕ) → readsData (stateOf l) ≡ true
+        → f ≡ pick (eqb (length l) imageLength) (front (stateOf l .fifo)) 0 → after₂ ≡ imageOf (settled (stateOf after))
+        → Returns (accessed false b (stateOf l)) (256 * f) after₂
+    data-settled b f after₂ d h e =
+        replied _ _ _ _ (data-read (stateOf l) d b)
+        (record {
+          number = ap (λ (x : ℕ). 256 * x) (oldest f h) ∙ sym (zero-add _);
+          image = e ∙ ap (λ (x : State). imageOf (settled x)) popped-state;
+        })
+
+  -- an access at 19h that moves nothing
+
+  pub data-refused : (b n : ℕ) → eqb (stateOf l .status .pointer) 0x19 ≡ true → readsData (stateOf l) ≡ false → n ≡ result NoDataNow
+      → Returns (accessed false b (stateOf l)) n l
+  data-refused b n e d m = replied _ _ _ _ (nothing-read (stateOf l) e b d) (record { number = m; image = start .image })
+
+  pub write-refused : (b n : ℕ) → eqb (stateOf l .status .pointer) 0x19 ≡ true → writesData (stateOf l) ≡ false → n ≡ result NoDataNow
+      → Returns (accessed true b (stateOf l)) n l
+  write-refused b n e d m = replied _ _ _ _ (nothing-written (stateOf l) e b d) (record { number = m; image = start .image })
 
   pub data-written : (b : ℕ) (after : List ℕ) → writesData (stateOf l) ≡ true
-      → after ≡ pick (eqb (length l) imageLength) (take fifoPlace l ++ newestIn b (drop fifoPlace l)) l
+      → after ≡ pick (eqb (length l) imageLength) (take fifoPlace l ++ fifoBytes (push b (stateOf l .fifo))) l
       → Returns (accessed true b (stateOf l)) 0 after
   data-written b after d g =
       replied _ _ _ _ (data-write (stateOf l) d b)
-      (record { number = refl; image = put-newest-at start after b g .image })
+      (record { number = refl; image = pushed b after g .image })
 
   pub low-enough : takesData (stateOf l) ≡ true → 2 ≤ stateOf l .registers .count % 256
   low-enough e = low (stateOf l) (taking (stateOf l) e)
@@ -149,40 +204,37 @@ module _ (l : List ℕ) (o : IsImage l) where
   pub taken-made : (b v : ℕ) (t : State) (after after₂ after₃ : List ℕ) → takesData (stateOf l) ≡ true
       → hasRoom (stateOf l .fifo) ≡ true
       → t ≡ pick (eqb (length l) imageLength) (stateOf l) fresh → v ≡ (t .registers .count - 1) % 256
-      → after ≡ pick (eqb (length l) imageLength) (take fifoPlace l ++ newestIn b (drop fifoPlace l)) l
+      → after ≡ pick (eqb (length l) imageLength) (take fifoPlace l ++ fifoBytes (push b (stateOf l .fifo))) l
       → after₂ ≡ pick (eqb (length after) imageLength) (set after 20 v) after
       → after₃ ≡ pick (eqb (length after₂) imageLength) (set after₂ 37 2) after₂
       → Returns (requested DataIn b false (stateOf l)) (256 * b) after₃
   taken-made b v t after after₂ after₃ d r e h f g k =
       let i = state-is l t o e in
       let n = low-enough d in
-      let one : At after (setFifo (push b (stateOf l .fifo)) (stateOf l)) = put-newest-at start after b f in
+      let one = pushed b after f in
       let v′ : v ≡ (stateOf l .registers .count - 1) % 256 = h ∙ ap (λ (x : State). (x .registers .count - 1) % 256) i in
       let two = put-low-at one after₂ (stateOf l .registers .count - 1) v v′ g (omega (arith, n)) in
       replied _ _ _ _ (byte-taken (stateOf l) d b r)
       (record { number = sym (zero-add _); image = put-last-at two after₃ 2 (Was DataIn) k refl .image })
 
-  pub sent-made : (b v : ℕ) (bad : Bool) (t : State) (q : Fifo) (x : ℕ) (after after₂ after₃ : List ℕ) → sendsData (stateOf l) ≡ true
+  pub sent-made : (b v : ℕ) (bad : Bool) (t : State) (x : ℕ) (after after₂ after₃ : List ℕ) → sendsData (stateOf l) ≡ true
       → isEmpty (stateOf l .fifo) ≡ false
       → t ≡ pick (eqb (length l) imageLength) (stateOf l) fresh → v ≡ (t .registers .count - 1) % 256
-      → q ≡ pop (t .fifo) → x ≡ front (t .fifo)
-      → after ≡ pick (eqb (length l) imageLength) (take fifoPlace l ++ fifoBytes q) l
+      → x ≡ pick (eqb (length l) imageLength) (front (stateOf l .fifo)) 0
+      → after ≡ pick (eqb (length l) imageLength) (take fifoPlace l ++ fifoBytes (pop (stateOf l .fifo))) l
       → after₂ ≡ pick (eqb (length after) imageLength) (set after 20 v) after
       → after₃ ≡ pick (eqb (length after₂) imageLength) (set after₂ 37 1) after₂
       → Returns (requested DataOut b bad (stateOf l)) (256 * x) after₃
-  sent-made b v bad t q x after after₂ after₃ d r e h p y f g k =
+  sent-made b v bad t x after after₂ after₃ d r e h y f g k =
       let i = state-is l t o e in
       let n = low-enough-out d in
-      let p′ : q ≡ pop (stateOf l .fifo) = p ∙ ap (λ (x : State). pop (x .fifo)) i in
-      let m : Whole q = rw p′ (keeps-bytes .pop-whole (stateOf l .fifo) (start .fifo)) in
-      let one = put-fifo-at start after q m f in
+      let one = popped after f in
       let v′ : v ≡ (stateOf l .registers .count - 1) % 256 = h ∙ ap (λ (x : State). (x .registers .count - 1) % 256) i in
       let two = put-low-at one after₂ (stateOf l .registers .count - 1) v v′ g (omega (arith, n)) in
-      let three = put-last-at two after₃ 1 (Was DataOut) k refl in
       replied _ _ _ _ (byte-sent (stateOf l) d b bad r)
       (record {
-        number = ap (λ (x : ℕ). 256 * x) (y ∙ ap (λ (x : State). front (x .fifo)) i) ∙ sym (zero-add _);
-        image = three .image ∙ ap (λ (r : Fifo). imageOf (setLast (Was DataOut) (setCount (stateOf l .registers .count - 1) (setFifo r (stateOf l))))) p′;
+        number = ap (λ (x : ℕ). 256 * x) (oldest x y) ∙ sym (zero-add _);
+        image = put-last-at two after₃ 1 (Was DataOut) k refl .image;
       })
 
   -- a test of the state as the code reads it
@@ -200,6 +252,17 @@ module _ (l : List ℕ) (o : IsImage l) where
       → after ≡ pick (eqb (length l) imageLength) (imageOf (r .state)) l → Returns (f (stateOf l)) n after
   whole-made f t r n after e g a b =
       replied _ _ _ _ (sym (g ∙ ap f (state-is l t o e))) (finished l r n after (o .valid) a b)
+
+  -- a Request made on the state: it touches one place of the FIFO at most
+  pub request-made : (p : Phase) (b : ℕ) (bad : Bool) (t : State) (r : Reply) (n : ℕ) (after : List ℕ)
+      → t ≡ pick (eqb (length l) imageLength) (stateOf l) fresh → r ≡ requested p b bad t → n ≡ result (r .answer)
+      → (IsImage l → Goes (stateOf l .fifo) (r .state .fifo) → after ≡ imageOf (r .state))
+      → Returns (requested p b bad (stateOf l)) n after
+  request-made p b bad t r n after e g a w =
+      let is : r ≡ requested p b bad (stateOf l) = g ∙ ap (requested p b bad) (state-is l t o e) in
+      let goes : Goes (stateOf l .fifo) (r .state .fifo) =
+      subst (λ (x : Reply). Goes (stateOf l .fifo) (x .state .fifo)) (sym is) (requested-goes p b bad (stateOf l)) in
+      replied _ _ _ _ (sym is) (record { number = a; image = w o goes })
 
   -- calls that store nothing
 
@@ -225,57 +288,22 @@ module _ (l : List ℕ) (o : IsImage l) where
       → Returns (requested DataOut b bad (stateOf l)) n l
   empty-still b n bad d r m = replied _ _ _ _ (out-held (stateOf l) d b bad r) (record { number = m; image = start .image })
 
-  -- block moves: k and u are the number moved and the state then, as the code has them
+  -- block moves
 
-  -- the FIFO stored, where nothing else changes
-  fifo-alone : (u v : State) (after : List ℕ) → u ≡ v → v ≡ setFifo (v .fifo) (stateOf l)
-      → after ≡ pick (eqb (length l) imageLength) (take fifoPlace l ++ fifoBytes (u .fifo)) l → after ≡ imageOf v
-  fifo-alone u v after e h b =
-      b ∙ pick-true _ _ _ (long-enough l (o .valid)) ∙ ap (λ (x : State). take fifoPlace l ++ fifoBytes (x .fifo)) e
-      ∙ ap (λ (x : List ℕ). take fifoPlace x ++ fifoBytes (v .fifo)) (start .image)
-      ∙ sym (fifo-stored (v .fifo) (stateOf l) (start .long)) ∙ ap imageOf (sym h)
-
-  pub block-written-made : (mark : ℕ) (d : List ℕ) (t : State) (k : ℕ) (u : State) (n : ℕ) (after : List ℕ) → mark ≡ 1
-      → t ≡ pick (eqb (length l) imageLength) (stateOf l) fresh → k ≡ blockWritten d t .number → u ≡ blockWritten d t .state
-      → n ≡ result (Done k) → after ≡ pick (eqb (length l) imageLength) (take fifoPlace l ++ fifoBytes (u .fifo)) l
+  pub block-written-made : (mark : ℕ) (d : List ℕ) (k n : ℕ) (after : List ℕ) → mark ≡ 1
+      → (k ≡ blockWritten d (stateOf l) .number) × (after ≡ imageOf (blockWritten d (stateOf l) .state)) → n ≡ result (Done k)
       → ReturnsMoved (pick (isSet mark) (blockWritten d (stateOf l)) (blockRead d (stateOf l))) n after d
-  block-written-made mark d t k u n after m e kn us a b =
-      let i = state-is l t o e in
+  block-written-made mark d k n after m w a =
       moved-as _ _ _ _ _ (pick-true _ _ _ (eq-eqb mark 1 m))
-      (record {
-        number = a ∙ ap (λ (x : ℕ). result (Done x)) (kn ∙ ap (λ (x : State). blockWritten d x .number) i);
-        image = fifo-alone u _ after (us ∙ ap (λ (x : State). blockWritten d x .state) i) (written-alone d (stateOf l)) b;
-        bytes = sym (written-bytes d (stateOf l));
-      })
+      (record { number = a ∙ ap (λ (x : ℕ). result (Done x)) (w .0); image = w .1; bytes = sym (written-bytes d (stateOf l)) })
 
-  pub block-read-made : (mark : ℕ) (d : List ℕ) (t : State) (r : Bool) (k : ℕ) (u : State) (n : ℕ) (after d′ : List ℕ) → (mark ≡ 1 → ⊥)
-      → t ≡ pick (eqb (length l) imageLength) (stateOf l) fresh → r ≡ inEnding t → r ≡ false → k ≡ blockRead d t .number
-      → u ≡ blockRead d t .state → d′ ≡ blockRead d t .bytes → n ≡ result (Done k)
-      → after ≡ pick (eqb (length l) imageLength) (take fifoPlace l ++ fifoBytes (u .fifo)) l
+  pub block-read-made : (mark : ℕ) (d : List ℕ) (k n : ℕ) (after d′ : List ℕ) → (mark ≡ 1 → ⊥)
+      → (k ≡ blockRead d (stateOf l) .number) × (after ≡ imageOf (blockRead d (stateOf l) .state)) × (d′ ≡ blockRead d (stateOf l) .bytes)
+      → n ≡ result (Done k)
       → ReturnsMoved (pick (isSet mark) (blockWritten d (stateOf l)) (blockRead d (stateOf l))) n after d′
-  block-read-made mark d t r k u n after d′ m e f h kn us z a b =
-      let i = state-is l t o e in
-      let calm : inEnding (stateOf l) ≡ false = sym (ap inEnding i) ∙ sym f ∙ h in
+  block-read-made mark d k n after d′ m w a =
       moved-as _ _ _ _ _ (pick-false _ _ _ (ne-eqb mark 1 m))
-      (record {
-        number = a ∙ ap (λ (x : ℕ). result (Done x)) (kn ∙ ap (λ (x : State). blockRead d x .number) i);
-        image = fifo-alone u _ after (us ∙ ap (λ (x : State). blockRead d x .state) i) (read-alone d (stateOf l) calm) b;
-        bytes = z ∙ ap (λ (x : State). blockRead d x .bytes) i;
-      })
-
-  pub block-ended-made : (mark : ℕ) (d : List ℕ) (t : State) (k : ℕ) (u : State) (n : ℕ) (after d′ : List ℕ) → (mark ≡ 1 → ⊥)
-      → t ≡ pick (eqb (length l) imageLength) (stateOf l) fresh → k ≡ blockRead d t .number
-      → u ≡ blockRead d t .state → d′ ≡ blockRead d t .bytes → n ≡ result (Done k)
-      → after ≡ pick (eqb (length l) imageLength) (imageOf u) l
-      → ReturnsMoved (pick (isSet mark) (blockWritten d (stateOf l)) (blockRead d (stateOf l))) n after d′
-  block-ended-made mark d t k u n after d′ m e kn us z a b =
-      let i = state-is l t o e in
-      moved-as _ _ _ _ _ (pick-false _ _ _ (ne-eqb mark 1 m))
-      (record {
-        number = a ∙ ap (λ (x : ℕ). result (Done x)) (kn ∙ ap (λ (x : State). blockRead d x .number) i);
-        image = b ∙ pick-true _ _ _ (long-enough l (o .valid)) ∙ ap imageOf (us ∙ ap (λ (x : State). blockRead d x .state) i);
-        bytes = z ∙ ap (λ (x : State). blockRead d x .bytes) i;
-      })
+      (record { number = a ∙ ap (λ (x : ℕ). result (Done x)) (w .0); image = w .1; bytes = w .2 })
 
 -- which Request it is
 

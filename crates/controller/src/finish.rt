@@ -2,11 +2,11 @@
 ghost use mathlib.Core.Path.{_≡_};
 ghost use Rattle.chip.specs.Choice.{pick};
 ghost use Rattle.chip.specs.Entries.{result};
-ghost use Rattle.chip.specs.Fifo.{endsOver};
-ghost use Rattle.chip.specs.Image.{fifoPlace, imageLength, imageOf};
+ghost use Rattle.chip.specs.Fifo.{Goes};
+ghost use Rattle.chip.specs.Image.{imageLength, imageOf, stateOf};
+ghost use Rattle.image.specs.IsImage.{IsImage};
 ghost use lib.Dec.{eqb};
-ghost use lib.ListN.{length, take, drop};
-ghost use mathlib.Core.List.{_++_};
+ghost use lib.ListN.{length};
 use chip::Reply;
 
 pub fn finish(r: Reply, image: &mut [u8]) -> u32
@@ -20,8 +20,8 @@ pub fn finish(r: Reply, image: &mut [u8]) -> u32
 
 // The same for a Request: at most one byte came into the FIFO, so of its places that one's alone is stored.
 pub fn finish_on(r: Reply, image: &mut [u8]) -> u32
-    ensures { λ n. ⌜ (n ≡ result (r .answer)) × (now (image .exit) ≡ pick (eqb (length (now (image .entry))) imageLength)
-        (take fifoPlace (imageOf (r .state)) ++ endsOver (r .state .fifo) (drop fifoPlace (now (image .entry)))) (now (image .entry))) ⌝ }
+    ensures { λ n. ⌜ (n ≡ result (r .answer))
+        × (IsImage (now (image .entry)) → Goes (stateOf (now (image .entry)) .fifo) (r .state .fifo) → now (image .exit) ≡ imageOf (r .state)) ⌝ }
 {
     let s = r.state;
     let a = r.answer;

@@ -78,6 +78,7 @@ fn data_read(image: &mut [u8]) -> u32
     waiting::pop(image);
     if interrupts::in_ending(s) {
         blocks::settle(image);
+        return 256 * (value as u32);
     }
     256 * (value as u32)
 }

@@ -270,7 +270,7 @@ fn all_lines(text: &[u8], image: &mut [u8], data: &mut [u8], first: &mut [u8]) -
 }
 
 pub(crate) fn run(text: &[u8]) {
-    let mut image = [0u8; 53];
+    let mut image = [0u8; 54];
     let mut data = [0u8; 32];
     let mut first = [0u8; 256];
     say(b"Sessions of the controller");

@@ -1,4 +1,4 @@
--- `controller::in_place::byte_taken` meets its contract.
+-- `controller::in_place::byte_taken` meets its contract: the byte, the count's low byte and the phase are stored.
 use Rattle.controller.proofs.InPlace.{state-is}
 use Rattle.controller.proofs.Steps.{low-enough, taken-made}
 use borrow.Author.Needs.{needs}
@@ -11,8 +11,8 @@ state-requires c κs = search needs
 low-after-requires : tie.Need-low-after-requires
 low-after-requires c κs = rw (state-is _ _ (c .before .before .before .pre .0) (c .state .ensures)) (low-enough _ (c .before .before .before .pre .0) (c .before .before .before .pre .1))
 
-newest-requires : tie.Need-newest-requires
-newest-requires c κs = search needs
+push-requires : tie.Need-push-requires
+push-requires c κs = search needs
 
 count-low-requires : tie.Need-count-low-requires
 count-low-requires c κs = search needs
@@ -27,7 +27,7 @@ same-length : tie.Need-same-length
 same-length c = search needs
 
 returns : tie.Need-returns
-returns c = taken-made _ (c .before .before .before .before .before .before .before .before .before .before .before .before .before .before .before .before .pre .0) _ _ _ _ _ _ (c .before .before .before .before .before .before .before .before .before .before .before .before .before .before .before .before .pre .1) (c .before .before .before .before .before .before .before .before .before .before .before .before .before .before .before .before .pre .2) (c .before .before .before .before .before .before .before .before .before .before .before .before .before .state .ensures) (c .before .before .before .before .before .before .before .before .before .before .before .before .low-after .ensures) (c .before .before .before .before .before .before .before .before .before .before .newest .ensures) (c .before .before .before .before .before .before .count-low .ensures) (c .before .before .last .ensures)
+returns c = taken-made _ (c .before .before .before .before .before .before .before .before .before .before .before .before .before .before .before .before .pre .0) _ _ _ _ _ _ (c .before .before .before .before .before .before .before .before .before .before .before .before .before .before .before .before .pre .1) (c .before .before .before .before .before .before .before .before .before .before .before .before .before .before .before .before .pre .2) (c .before .before .before .before .before .before .before .before .before .before .before .before .before .state .ensures) (c .before .before .before .before .before .before .before .before .before .before .before .before .low-after .ensures) (c .before .before .before .before .before .before .before .before .before .before .push .ensures) (c .before .before .before .before .before .before .count-low .ensures) (c .before .before .last .ensures)
 
 pub byte-taken-spec : {M : Type 1} → statement M
 byte-taken-spec =
@@ -35,7 +35,7 @@ byte-taken-spec =
     (tie.spec
     state-requires
     low-after-requires
-    newest-requires
+    push-requires
     count-low-requires
     last-requires
     mul-result

@@ -1,8 +1,10 @@
--- `controller::in_place::register_read` meets its contract.
+-- `controller::in_place::register_read` meets its contract: the three short ways, and the long one.
+use lib.Dec.{eqb}
 use Rattle.chip.specs.Moves.{isPlain, readsData}
 use Rattle.chip.specs.Registers.{accessed}
+use Rattle.chip.specs.declared.State.{State}
 use mathlib.Core.Bool.{false}
-use Rattle.controller.proofs.Steps.{said}
+use Rattle.controller.proofs.Steps.{said, said-not, data-refused}
 use borrow.Author.Needs.{needs}
 use Rattle.controller.proofs.in_place.register_read.Statement.{statement}
 use Rattle.controller.proofs.in_place.register_read.Tie as tie
@@ -34,14 +36,28 @@ same-length-2 c = search needs
 returns-2 : tie.Need-returns-2
 returns-2 c = search needs
 
-read-whole-requires : tie.Need-read-whole-requires
-read-whole-requires c κs = search needs
+is-at-data-requires : tie.Need-is-at-data-requires
+is-at-data-requires c κs = search needs
+
+result-requires : tie.Need-result-requires
+result-requires c κs = search needs
 
 same-length-3 : tie.Need-same-length-3
 same-length-3 c = search needs
 
 returns-3 : tie.Need-returns-3
-returns-3 c = c .before .before .read-whole .ensures
+returns-3 c =
+    data-refused _ (c .before .before .before .before .before .before .before .before .before .before .pre) 0 _ (said _ (c .before .before .before .before .before .before .before .before .before .before .pre) (λ (x : State). eqb (x .status .pointer) 0x19) _ _ (c .before .before .before .before .before .before .before .state .ensures) (c .before .before .is-at-data .ensures) (c .before .if3 .taken))
+    (said-not _ (c .before .before .before .before .before .before .before .before .before .before .pre) readsData _ _ (c .before .before .before .before .before .before .before .state .ensures) (c .before .before .before .before .reads-data .ensures) (c .before .before .before .if2 .left)) (c .result .ensures)
+
+read-whole-requires : tie.Need-read-whole-requires
+read-whole-requires c κs = search needs
+
+same-length-4 : tie.Need-same-length-4
+same-length-4 c = search needs
+
+returns-4 : tie.Need-returns-4
+returns-4 c = c .before .before .read-whole .ensures
 
 pub register-read-spec : {M : Type 1} → statement M
 register-read-spec =
@@ -56,6 +72,10 @@ register-read-spec =
     data-read-requires
     same-length-2
     returns-2
-    read-whole-requires
+    is-at-data-requires
+    result-requires
     same-length-3
-    returns-3)
+    returns-3
+    read-whole-requires
+    same-length-4
+    returns-4)

@@ -1,8 +1,10 @@
--- `controller::in_place::register_written` meets its contract.
+-- `controller::in_place::register_written` meets its contract: the three short ways, and the long one.
+use lib.Dec.{eqb}
 use Rattle.chip.specs.Moves.{isPlain, writesData}
 use Rattle.chip.specs.Registers.{accessed}
+use Rattle.chip.specs.declared.State.{State}
 use mathlib.Core.Bool.{true}
-use Rattle.controller.proofs.Steps.{said, data-written}
+use Rattle.controller.proofs.Steps.{said, said-not, data-written, write-refused}
 use borrow.Author.Needs.{needs}
 use Rattle.controller.proofs.in_place.register_written.Statement.{statement}
 use Rattle.controller.proofs.in_place.register_written.Tie as tie
@@ -25,23 +27,37 @@ returns c = search needs
 writes-data-requires : tie.Need-writes-data-requires
 writes-data-requires c κs = search needs
 
-newest-requires : tie.Need-newest-requires
-newest-requires c κs = search needs
+push-requires : tie.Need-push-requires
+push-requires c κs = search needs
 
 same-length-2 : tie.Need-same-length-2
 same-length-2 c = search needs
 
 returns-2 : tie.Need-returns-2
-returns-2 c = data-written _ (c .before .before .before .before .before .before .before .before .before .before .before .pre) _ _ (said _ (c .before .before .before .before .before .before .before .before .before .before .before .pre) writesData _ _ (c .before .before .before .before .before .before .before .before .state .ensures) (c .before .before .before .before .before .writes-data .ensures) (c .before .before .before .before .if2 .taken)) (c .before .before .newest .ensures)
+returns-2 c = data-written _ (c .before .before .before .before .before .before .before .before .before .before .before .pre) _ _ (said _ (c .before .before .before .before .before .before .before .before .before .before .before .pre) writesData _ _ (c .before .before .before .before .before .before .before .before .state .ensures) (c .before .before .before .before .before .writes-data .ensures) (c .before .before .before .before .if2 .taken)) (c .before .before .push .ensures)
 
-written-whole-requires : tie.Need-written-whole-requires
-written-whole-requires c κs = search needs
+is-at-data-requires : tie.Need-is-at-data-requires
+is-at-data-requires c κs = search needs
+
+result-requires : tie.Need-result-requires
+result-requires c κs = search needs
 
 same-length-3 : tie.Need-same-length-3
 same-length-3 c = search needs
 
 returns-3 : tie.Need-returns-3
-returns-3 c = c .before .before .written-whole .ensures
+returns-3 c =
+    write-refused _ (c .before .before .before .before .before .before .before .before .before .before .pre) _ _ (said _ (c .before .before .before .before .before .before .before .before .before .before .pre) (λ (x : State). eqb (x .status .pointer) 0x19) _ _ (c .before .before .before .before .before .before .before .state .ensures) (c .before .before .is-at-data .ensures) (c .before .if3 .taken))
+    (said-not _ (c .before .before .before .before .before .before .before .before .before .before .pre) writesData _ _ (c .before .before .before .before .before .before .before .state .ensures) (c .before .before .before .before .writes-data .ensures) (c .before .before .before .if2 .left)) (c .result .ensures)
+
+written-whole-requires : tie.Need-written-whole-requires
+written-whole-requires c κs = search needs
+
+same-length-4 : tie.Need-same-length-4
+same-length-4 c = search needs
+
+returns-4 : tie.Need-returns-4
+returns-4 c = c .before .before .written-whole .ensures
 
 pub register-written-spec : {M : Type 1} → statement M
 register-written-spec =
@@ -53,9 +69,13 @@ register-written-spec =
     same-length
     returns
     writes-data-requires
-    newest-requires
+    push-requires
     same-length-2
     returns-2
-    written-whole-requires
+    is-at-data-requires
+    result-requires
     same-length-3
-    returns-3)
+    returns-3
+    written-whole-requires
+    same-length-4
+    returns-4)
