@@ -145,9 +145,11 @@ static const struct item items[] = {
     ITEM("lines", from_in, lines_read),
     RESTORED("block in, 1 byte (restored)", from_full, in_1),
     RESTORED("block in, 12 bytes (restored)", from_full, in_12),
+    RESTORED("block in, 12 bytes over the end (restored)", from_full_over_the_end, in_12),
     RESTORED("block in, 4096 bytes, 12 wait (restored)", from_full, in_4096),
     RESTORED("block out, 1 byte (restored)", from_out, out_1),
     RESTORED("block out, 12 bytes (restored)", from_out, out_12),
+    RESTORED("block out, 12 bytes over the end (restored)", from_out_over_the_end, out_12),
     RESTORED("block out, 4096 bytes, room for 12 (restored)", from_out, out_4096),
     WHOLE("1 MiB in, polled", mebibyte_in_polled),
     WHOLE("1 MiB in, by blocks", mebibyte_in_by_blocks),
@@ -202,6 +204,13 @@ static void measure(const struct item *item, double times[SIDES])
     for (int k = 0; k < SIDES; k++) times[k] = (work[k] / (double)n[k] - restoring[k] / (double)m[k]) * 1e9;
 }
 
+/* The library's FIFO has travelled to place 6, with so many bytes waiting: bytes 41 and 40 of the image (docs/IMAGE.md). */
+static int is_over_the_end(void (*from)(void), uint8_t waiting)
+{
+    from();
+    return library_state[41] == 6 && library_state[40] == waiting;
+}
+
 static uint32_t trial(const struct side *s, long n)
 {
     for (size_t i = 0; i < sizeof slice; i++) slice[i] = (uint8_t)i;
@@ -236,11 +245,16 @@ int main(void)
         printf("bench: the images do not fit into %d bytes\n", ROOM);
         return 1;
     }
+    if (!is_over_the_end(library_from_full_over_the_end, 12) || !is_over_the_end(library_from_out_over_the_end, 0)) {
+        printf("bench: the FIFO's first byte is not in place 6\n");
+        return 1;
+    }
     for (size_t i = 0; i < sizeof sent; i++) sent[i] = (uint8_t)(i * 2654435761u >> 13);
     printf("Nanoseconds per call: the library (an image of %d bytes lent to each call), " OTHER_SIDE " and plain C over a struct.\n"
            "One core, best of 7 runs. 'two calls', 'four calls': for all of them. 'restored': the state by memcpy, its own time\n"
            "subtracted. 1 MiB: a whole Select-And-Transfer, each byte compared at the end; polled: Request, auxiliary read, access;\n"
-           "by blocks: slices of 4096 bytes lent, of which 12 move, then 12 Requests.\n",
+           "by blocks: slices of 4096 bytes lent, of which 12 move, then 12 Requests. 'over the end': six of the bytes stand in the\n"
+           "FIFO's last places and six in its first; else a block begins at the first place.\n",
            (int)library_length);
     printf("%-46s %9s    %9s    %9s    %8s %8s\n", "", "library", OTHER, "C", "to " OTHER, "to C");
     for (size_t i = 0; i < sizeof items / sizeof items[0]; i++) {

@@ -72,6 +72,30 @@ static void SIDE(from_full)(void)
     SIDE(keep)();
 }
 
+/* Six bytes have gone through: the FIFO's first byte stands in place 6, and six of twelve go over the end (docs/IMAGE.md). */
+
+static void SIDE(from_full_over_the_end)(void)
+{
+    SIDE(transfer)(AM33C93A_DATA_IN);
+    ENTRY(pointer)(STATE, 1, AM33C93A_DATA);
+    for (uint32_t i = 0; i < 6 + 12; i++) {
+        ENTRY(request)(STATE, AM33C93A_DATA_IN, 0x30 + i, 0);
+        if (i < 6) ENTRY(register)(STATE, 0, 0);
+    }
+    SIDE(keep)();
+}
+
+static void SIDE(from_out_over_the_end)(void)
+{
+    SIDE(transfer)(AM33C93A_DATA_OUT);
+    ENTRY(pointer)(STATE, 1, AM33C93A_DATA);
+    for (uint32_t i = 0; i < 6; i++) {
+        ENTRY(register)(STATE, 1, 0x30 + i);
+        ENTRY(request)(STATE, AM33C93A_DATA_OUT, 0, 0);
+    }
+    SIDE(keep)();
+}
+
 /* The work. */
 
 static uint32_t SIDE(pointer_set)(long n)

@@ -31,7 +31,7 @@ use Rattle.chip.proofs.ImageValid.{valid}
 use Rattle.fifo.specs.Bulk.{Bulk, drained, filled}
 use Rattle.fifo.proofs.BulkLaws.{drained-whole, filled-whole, drained-still}
 use Rattle.image.specs.IsImage.{IsImage}
-use Rattle.image.specs.Waiting.{ImageMoved, holdsFifo, imageDrained, imageFilled, inImage}
+use Rattle.image.specs.Waiting.{ImageMoved, holdsFifo, imageMoved, imageDrained, imageFilled, inImage}
 use Rattle.blocks.proofs.Blocks.{settled-in, settled-calm, read-in, written-out}
 
 pub image-is : (l : List ℕ) (s : State) → Ok s → l ≡ imageOf s → IsImage l
@@ -57,13 +57,15 @@ module _ (l : List ℕ) (o : IsImage l) where
   put-ok : (q : Fifo) → Whole q → Ok (setFifo q (stateOf l))
   put-ok q u = record { cdb-long = o .ok .cdb-long; count-below = o .ok .count-below; identity-below = o .ok .identity-below; fifo = u }
 
+  run-in : (f : List ℕ → Fifo → Bulk) (d : List ℕ) → imageMoved f d l ≡ inImage l (f d (stateOf l .fifo))
+  unfolding imageMoved holdsFifo both
+  run-in f d = taken _ _ (rw fits (valid l (o .valid) .fifo))
+
   drained-in : (d : List ℕ) → imageDrained d l ≡ inImage l (drained d (stateOf l .fifo))
-  unfolding imageDrained holdsFifo both
-  drained-in d = taken _ _ (rw fits (valid l (o .valid) .fifo))
+  drained-in d = run-in drained d
 
   filled-in : (n : ℕ) (d : List ℕ) → imageFilled n d l ≡ inImage l (filled n d (stateOf l .fifo))
-  unfolding imageFilled
-  filled-in n d = taken _ _ fits
+  filled-in n d = run-in (filled n) d
 
   -- an ending
 

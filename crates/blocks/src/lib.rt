@@ -14,8 +14,9 @@ pub fn settle(image: &mut [u8])
     requires { ⌜ IsImage (now image) × (stateOf (now image) .transfer .direction ≡ Direction.In) ⌝ }
     ensures { λ _. ⌜ now (image .exit) ≡ imageOf (settled (stateOf (now (image .entry)))) ⌝ }
 {
-    let s = image::state(image);
-    image::write_on(interrupts::settled(s), image);
+    let read = image::state(image);
+    let settled = interrupts::settled(read);
+    image::write_on(settled, image);
 }
 
 // The bytes that wait, into the slice; an ending settles where one moved. How many moved.
@@ -64,6 +65,9 @@ pub fn block_written(image: &mut [u8], from: &[u8]) -> u8
     match direction {
         Direction::Unfixed => 0,
         Direction::In => 0,
-        Direction::Out => waiting::fill(count::left(s), image, from),
+        Direction::Out => {
+            let left = count::left(s);
+            waiting::fill(left, image, from)
+        }
     }
 }

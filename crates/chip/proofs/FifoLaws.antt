@@ -148,8 +148,11 @@ module _ (q : Fifo) (u : Whole q) where
       let k : 12 ≤ q .first + q .held = ltb-false (q .first + q .held) 12 e in
       let n : round (q .first + q .held) ≡ q .first + q .held - 12 = round-over (q .first + q .held) k (omega (arith, u .place)) in
       let m : length (drop (q .first) (q .bytes)) + (q .first + q .held - 12) ≡ q .held = omega (arith, after-length, u .place) in
-      rw (n, drop-set-lt (q .first) (q .bytes) (q .first + q .held - 12) b (omega (arith, u .place)),
-      take-set-lt (q .first) (q .bytes) (q .first + q .held - 12) b (omega (arith, u .place)))
+      rw (
+        n,
+        drop-set-lt (q .first) (q .bytes) (q .first + q .held - 12) b (omega (arith, u .place)),
+        take-set-lt (q .first) (q .bytes) (q .first + q .held - 12) b (omega (arith, u .place)),
+      )
       (sym (set-behind (drop (q .first) (q .bytes)) (take (q .first) (q .bytes)) (q .first + q .held - 12) b)
       ∙ ap (λ (i : ℕ). set (inOrder q) i b) m))
 

@@ -1,4 +1,4 @@
--- The FIFO's part of the image: many bytes moved in it at once. Bytes of another length move nothing.
+-- The FIFO's part of the image: many bytes moved in it at once. Bytes that are no FIFO's move nothing.
 use mathlib.Core.Bool.{Bool}
 use mathlib.Core.List.{List}
 use Prim.Native.Nat.{ℕ}
@@ -6,6 +6,7 @@ use lib.Dec.{eqb}
 use lib.ListN.{length}
 use Rattle.chip.specs.Choice.{pick, both}
 use Rattle.chip.specs.Fifo.{fifoBytes, fifoLength, fifoOf, isFifo}
+use Rattle.chip.specs.declared.Fifo.{Fifo}
 use Rattle.fifo.specs.Bulk.{Bulk, drained, filled}
 
 -- bytes that are a FIFO's
@@ -24,10 +25,14 @@ inPart r = record { moved = r .moved; part = fifoBytes (r .fifo); bytes = r .byt
 abbrev pub unmoved : List ℕ → List ℕ → PartMoved
 unmoved l p = record { moved = 0; part = p; bytes = l }
 
--- read out into the slice l; from bytes that are no FIFO's, none
-unfoldable pub partDrained : List ℕ → List ℕ → PartMoved
-partDrained l p = pick (isPart p) (inPart (drained l (fifoOf p))) (unmoved l p)
+-- a run f over the FIFO (`drained`, `filled`) with the slice l; from bytes that are no FIFO's nothing moves
+unfoldable pub partMoved : (List ℕ → Fifo → Bulk) → List ℕ → List ℕ → PartMoved
+partMoved f l p = pick (isPart p) (inPart (f l (fifoOf p))) (unmoved l p)
+
+-- read out into the slice l
+abbrev pub partDrained : List ℕ → List ℕ → PartMoved
+partDrained l p = partMoved drained l p
 
 -- the slice l written in, as long as fewer than n wait
-unfoldable pub partFilled : ℕ → List ℕ → List ℕ → PartMoved
-partFilled n l p = pick (eqb (length p) fifoLength) (inPart (filled n l (fifoOf p))) (unmoved l p)
+abbrev pub partFilled : ℕ → List ℕ → List ℕ → PartMoved
+partFilled n l p = partMoved (filled n) l p

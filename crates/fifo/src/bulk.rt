@@ -56,20 +56,28 @@ pub fn fill(n: u32, part: &mut [u8], from: &[u8]) -> u8
     if part.len() == LENGTH {
         let first = part[1];
         let mut held = part[0];
-        let mut i = 0;
-        while i < from.len() {
+        if 12 < held {
+            return 0;
+        }
+        if 11 < first {
+            return 0;
+        }
+        let mut at = crate::behind(first, held);
+        let mut j = 0;
+        while j < from.len() {
             if takes(n, held) {
-                let at = 2 + (crate::behind(first, held) as usize);
-                part[at] = from[i];
+                let place = 2 + (at as usize);
+                part[place] = from[j];
+                at = crate::after(at);
                 held += 1;
-                i += 1;
+                j += 1;
             } else {
                 part::set_ends(first, held, part);
-                return i as u8;
+                return j as u8;
             }
         }
         part::set_ends(first, held, part);
-        return i as u8;
+        return j as u8;
     }
     0
 }

@@ -2,7 +2,7 @@
 --   got-end front-end        what is read off it
 --   valid-end                whether it is a FIFO's
 --   stored-end               what is stored there
---   drained-end filled-end   many bytes moved there
+--   run-end                  many bytes moved there
 use mathlib.Core.Path.{_≡_, refl, ap, sym, _∙_}
 use mathlib.Core.List.{List, [], _++_, append-nil}
 use Prim.Native.Nat.{ℕ}
@@ -14,11 +14,12 @@ use borrow.Author.Tests.{eq-eqb}
 use borrow.Rule.Slice.PartMut.{putMid}
 use Rattle.chip.specs.Choice.{pick, both}
 use Rattle.chip.specs.Fifo.{empty, front, fifoLength, fifoOf, isFifo}
-use Rattle.fifo.specs.Bulk.{drained, filled}
+use Rattle.fifo.specs.Bulk.{Bulk}
+use Rattle.chip.specs.declared.Fifo.{Fifo}
 use Rattle.fifo.specs.Part as P
-use Rattle.fifo.specs.Part.{isPart, partDrained, partFilled}
+use Rattle.fifo.specs.Part.{isPart, partMoved}
 use Rattle.image.specs.Waiting as W
-use Rattle.image.specs.Waiting.{holdsFifo, imageDrained, imageFilled}
+use Rattle.image.specs.Waiting.{holdsFifo, imageMoved}
 use Rattle.chip.specs.Image.{imageLength, stateOf, fifoPlace}
 use Rattle.chip.proofs.Cases.{by-test, taken, passed-over}
 
@@ -67,49 +68,31 @@ module _ (l : List ℕ) (h : length l ≡ imageLength) where
       ∙ ap (λ (y : List ℕ). take fifoPlace l ++ y) (append-nil x)
 
   -- what a run in the part comes to there, and in the image
-  drained-part : (d : List ℕ) → partDrained d (take fifoLength (drop fifoPlace l))
-      ≡ pick (isFifo (drop fifoPlace l)) (P.inPart (drained d (fifoOf (drop fifoPlace l)))) (P.unmoved d (drop fifoPlace l))
-  unfolding partDrained isPart both
-  drained-part d = ap (partDrained d) end-part ∙ rw (eq-eqb _ _ end-long)
+  run-part : (f : List ℕ → Fifo → Bulk) (d : List ℕ) → partMoved f d (take fifoLength (drop fifoPlace l))
+      ≡ pick (isFifo (drop fifoPlace l)) (P.inPart (f d (fifoOf (drop fifoPlace l)))) (P.unmoved d (drop fifoPlace l))
+  unfolding partMoved isPart both
+  run-part f d = ap (partMoved f d) end-part ∙ rw (eq-eqb _ _ end-long)
 
-  drained-image : (d : List ℕ) → imageDrained d l
-      ≡ pick (isFifo (drop fifoPlace l)) (W.inImage l (drained d (fifoOf (drop fifoPlace l)))) (W.unmoved d l)
-  unfolding imageDrained holdsFifo both stateOf
-  drained-image d = rw (eq-eqb _ _ h)
+  run-image : (f : List ℕ → Fifo → Bulk) (d : List ℕ) → imageMoved f d l
+      ≡ pick (isFifo (drop fifoPlace l)) (W.inImage l (f d (fifoOf (drop fifoPlace l)))) (W.unmoved d l)
+  unfolding imageMoved holdsFifo both stateOf
+  run-image f d = rw (eq-eqb _ _ h)
 
-  pub drained-end : (d : List ℕ) (n : ℕ) (p o : List ℕ)
-      → (n ≡ partDrained d (take fifoLength (drop fifoPlace l)) .moved)
-      × (p ≡ partDrained d (take fifoLength (drop fifoPlace l)) .part)
-      × (o ≡ partDrained d (take fifoLength (drop fifoPlace l)) .bytes)
-      → (n ≡ imageDrained d l .moved) × (putMid fifoPlace fifoLength l p ≡ imageDrained d l .image) × (o ≡ imageDrained d l .bytes)
-  drained-end d n p o e =
+  pub run-end : (f : List ℕ → Fifo → Bulk) (d : List ℕ) (n : ℕ) (p o : List ℕ)
+      → (n ≡ partMoved f d (take fifoLength (drop fifoPlace l)) .moved)
+      × (p ≡ partMoved f d (take fifoLength (drop fifoPlace l)) .part)
+      × (o ≡ partMoved f d (take fifoLength (drop fifoPlace l)) .bytes)
+      → (n ≡ imageMoved f d l .moved) × (putMid fifoPlace fifoLength l p ≡ imageMoved f d l .image) × (o ≡ imageMoved f d l .bytes)
+  run-end f d n p o e =
       by-test (isFifo (drop fifoPlace l))
-      (λ t. moved (drained-part d ∙ taken _ _ t) (drained-image d ∙ taken _ _ t) (end-is p _) refl refl)
-      (λ t. moved (drained-part d ∙ passed-over _ _ t) (drained-image d ∙ passed-over _ _ t) (λ f. end-is p _ f ∙ take-append-drop fifoPlace l) refl refl)
+      (λ t. moved (run-part f d ∙ taken _ _ t) (run-image f d ∙ taken _ _ t) (end-is p _) refl refl)
+      (λ t. moved (run-part f d ∙ passed-over _ _ t) (run-image f d ∙ passed-over _ _ t) (λ f. end-is p _ f ∙ take-append-drop fifoPlace l) refl refl)
     where
-      moved : {x : P.PartMoved} {y : W.ImageMoved} → partDrained d (take fifoLength (drop fifoPlace l)) ≡ x → imageDrained d l ≡ y
+      moved : {x : P.PartMoved} {y : W.ImageMoved} → partMoved f d (take fifoLength (drop fifoPlace l)) ≡ x → imageMoved f d l ≡ y
           → (p ≡ x .part → putMid fifoPlace fifoLength l p ≡ y .image) → x .moved ≡ y .moved → x .bytes ≡ y .bytes
-          → (n ≡ imageDrained d l .moved) × (putMid fifoPlace fifoLength l p ≡ imageDrained d l .image) × (o ≡ imageDrained d l .bytes)
-      moved {x} {y} a b f g k =
-          (
-            e .0 ∙ ap (λ (z : P.PartMoved). z .moved) a ∙ g ∙ sym (ap (λ (z : W.ImageMoved). z .moved) b),
-            f (e .1 ∙ ap (λ (z : P.PartMoved). z .part) a) ∙ sym (ap (λ (z : W.ImageMoved). z .image) b),
-            e .2 ∙ ap (λ (z : P.PartMoved). z .bytes) a ∙ k ∙ sym (ap (λ (z : W.ImageMoved). z .bytes) b),
-          )
-
-  filled-part : (m : ℕ) (d : List ℕ) → partFilled m d (take fifoLength (drop fifoPlace l)) ≡ P.inPart (filled m d (fifoOf (drop fifoPlace l)))
-  unfolding partFilled pick
-  filled-part m d = ap (partFilled m d) end-part ∙ rw (eq-eqb _ _ end-long)
-
-  filled-image : (m : ℕ) (d : List ℕ) → imageFilled m d l ≡ W.inImage l (filled m d (fifoOf (drop fifoPlace l)))
-  unfolding imageFilled stateOf pick
-  filled-image m d = rw (eq-eqb _ _ h)
-
-  pub filled-end : (m : ℕ) (d : List ℕ) (n : ℕ) (p : List ℕ)
-      → (n ≡ partFilled m d (take fifoLength (drop fifoPlace l)) .moved) × (p ≡ partFilled m d (take fifoLength (drop fifoPlace l)) .part)
-      → (n ≡ imageFilled m d l .moved) × (putMid fifoPlace fifoLength l p ≡ imageFilled m d l .image)
-  filled-end m d n p e =
-      (
-        e .0 ∙ ap (λ (z : P.PartMoved). z .moved) (filled-part m d) ∙ sym (ap (λ (z : W.ImageMoved). z .moved) (filled-image m d)),
-        end-is p _ (e .1 ∙ ap (λ (z : P.PartMoved). z .part) (filled-part m d)) ∙ sym (ap (λ (z : W.ImageMoved). z .image) (filled-image m d)),
+          → (n ≡ imageMoved f d l .moved) × (putMid fifoPlace fifoLength l p ≡ imageMoved f d l .image) × (o ≡ imageMoved f d l .bytes)
+      moved {x} {y} a b w g k = (
+        e .0 ∙ ap (λ (z : P.PartMoved). z .moved) a ∙ g ∙ sym (ap (λ (z : W.ImageMoved). z .moved) b),
+        w (e .1 ∙ ap (λ (z : P.PartMoved). z .part) a) ∙ sym (ap (λ (z : W.ImageMoved). z .image) b),
+        e .2 ∙ ap (λ (z : P.PartMoved). z .bytes) a ∙ k ∙ sym (ap (λ (z : W.ImageMoved). z .bytes) b),
       )

@@ -94,4 +94,8 @@ moved-same : (q : Fifo) → Whole q → SameBytes q (movedUp q)
 moved-same q u = record { left = u; right = kept-as-before .whole q u; bytes = sym (kept-as-before .bytes q u) }
 
 pub as-before : AsBefore step
-as-before l = any-keeping (λ c s. movedUp) (λ c s. moved-same) l fresh fresh (alike same-begin)
+as-before =
+    record {
+      anywhere = λ l s u. any-keeping (λ c s. movedUp) (λ c s. moved-same) l s (setFifo (movedUp (s .fifo)) s) (alike (moved-same (s .fifo) u));
+      from-fresh = λ l. any-keeping (λ c s. movedUp) (λ c s. moved-same) l fresh fresh (alike same-begin);
+    }

@@ -6,3 +6,4 @@ pub mod Events
 pub mod Commands
 pub mod Host
 pub mod Laws
+pub mod Refuted

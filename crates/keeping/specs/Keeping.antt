@@ -1,11 +1,13 @@
--- Where the FIFO's bytes stand is told to nobody. Paper 02, Req 03: "Keep them where they are and let the ends travel. Nothing that a
--- caller is told changes."
+-- Where the FIFO's bytes stand is told to nobody. Paper 02, Req 03: "Nothing that a caller is told changes." (That they stay where they are
+-- is not said here: it is chip's specs/Fifo.antt, and `Goes` there.) What a caller is told is answers, values, lent bytes and lines; who
+-- looks into the lent image sees the places.
 --   SameBytes        two FIFOs in which the same bytes wait, in places of their own
 --   Alike            two states that differ in nothing but how the FIFO keeps its bytes
 --   TellsNoPlaces    a step's law: two alike states are told alike, and stay alike
 --   told, toldBy     what a caller is told by a call, and by a list of calls
 --   AnyKeeping       a step's law: however the bytes are moved about between the calls, the caller is told the same
---   AsBefore         a step's law: the caller is told what the controller told over the old keeping (chip's specs/Before.antt)
+--   AsBefore         a step's law: the caller is told what the controller told over the old keeping (chip's specs/Before.antt),
+--                    from every state
 use mathlib.Core.Path.{_≡_}
 use mathlib.Core.List.{List, [], _∷_}
 use Prim.Native.Nat.{ℕ}
@@ -64,5 +66,7 @@ AnyKeeping f =
 abbrev pub stepBefore : Call → State → Outcome
 stepBefore = keptBy (λ c s. movedUp) step
 
-abbrev pub AsBefore : (Call → State → Outcome) → Type 0
-AsBefore f = (l : List Call) → toldBy f l fresh ≡ toldBy stepBefore l fresh
+-- from every state that an image can say, beside the same state over the old keeping; the fresh one is the same over both
+pub record AsBefore (f : Call → State → Outcome) : Type 0 where
+  pub anywhere : (l : List Call) (s : State) → Whole (s .fifo) → toldBy f l s ≡ toldBy stepBefore l (setFifo (movedUp (s .fifo)) s)
+  pub from-fresh : (l : List Call) → toldBy f l fresh ≡ toldBy stepBefore l fresh

@@ -61,6 +61,16 @@ fn await_translation(image: &mut Image, random: &mut Random) {
     image[COMMAND] = 0;
 }
 
+/// Transfer Info before its last Message In byte. Where the way is out, which no calls reach, it is put and dropped in one call.
+fn await_last_message(image: &mut Image) {
+    image[18..21].copy_from_slice(&[0, 0, 1]);
+    image[PENDING] = 0;
+    image[CONNECTION] = 3;
+    image[COMMAND] = 5;
+    image[HELD_ACK] = 0;
+    image[REPORTED] = 8;
+}
+
 /// INT only where no command runs, an ending only where one does, its code only with an ending.
 fn tidy(image: &mut Image, random: &mut Random) {
     match image[PENDING] {
@@ -85,6 +95,9 @@ pub fn any_state(random: &mut Random) -> Image {
     }
     if random.percent(8) {
         await_translation(&mut image, random);
+    }
+    if random.percent(4) {
+        await_last_message(&mut image);
     }
     tidy(&mut image, random);
     image

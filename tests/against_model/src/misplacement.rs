@@ -1,7 +1,8 @@
 //! The FIFO's places kept wrongly on purpose (mistakes.rs): no answer shows it, so only the images can.
 
+use crate::call::Call;
 use crate::images::OLDEST;
-use model::{Controller, Fifo, Image, FIFO_SIZE};
+use model::{Connection, Controller, Fifo, Image, Running, FIFO_SIZE};
 
 #[derive(Clone, Copy, PartialEq, Debug)]
 pub enum Misplacement {
@@ -11,10 +12,21 @@ pub enum Misplacement {
     OthersMoveUp,
     /// The next byte after a drop comes to where it would have come without.
     DropKeepsTheEnd,
-    DropWipesThePlaces,
+    RaisedCodeWipesThePlaces,
+    StatusWipesThePlaces,
+    /// A byte that comes in and is dropped in the same call never stood in its place.
+    DroppedByteIsNotPut,
     /// The last byte that goes out takes the ends back to the first place, as a drop does.
     ReadOutGoesToTheFirstPlace,
+    StartKeepsThePlaces,
+    ResumeKeepsThePlaces,
+    TransferInfoKeepsThePlaces,
+    DisconnectKeepsThePlaces,
     ResetKeepsThePlaces,
+    /// Where none waits there is nothing to wipe.
+    EmptyFifoIsNotWiped,
+    /// A Select begins as the commands that move data do.
+    SelectWipesThePlaces,
     /// An image may name a place behind the last.
     PlaceTwelveIsThere,
     /// Where no byte waits only 0 may stand.
@@ -38,11 +50,34 @@ fn moved_up(fifo: &Fifo) -> Fifo {
     up
 }
 
+/// The command that this call wrote, bit 7 taken off; ignored or not.
+fn command(call: Call, state: &Controller) -> Option<u32> {
+    match call {
+        Call::Register { mark: 1, byte } if state.pointer == 0x18 => Some(byte & 0x7f),
+        _ => None,
+    }
+}
+
 /// What a right call came to, misplaced.
-pub fn misplace(wrongly: Misplacement, before: &Fifo, fifo: &Fifo) -> Fifo {
+pub fn misplace(wrongly: Misplacement, call: Call, was: &Controller, is: &Controller) -> Fifo {
     use Misplacement::*;
+    let (before, fifo) = (&was.fifo, &is.fifo);
     let (waiting, mut places) = (fifo.waiting() as u8, *fifo.places());
+    let command = command(call, was);
+    let is_request = matches!(call, Call::Request { .. });
+    let is_resume = was.connection == Connection::Connected;
+    let is_kept = match wrongly {
+        StartKeepsThePlaces => matches!(command, Some(0x08 | 0x09)) && !is_resume,
+        ResumeKeepsThePlaces => matches!(command, Some(0x08 | 0x09)) && is_resume,
+        TransferInfoKeepsThePlaces => command == Some(0x20),
+        DisconnectKeepsThePlaces => command == Some(0x04),
+        ResetKeepsThePlaces => command == Some(0x00),
+        EmptyFifoIsNotWiped => command.is_some() && before.is_empty(),
+        DroppedByteIsNotPut => is_request && is_dropped(before, fifo),
+        _ => false,
+    };
     let misplaced = match wrongly {
+        _ if is_kept => Fifo::of(waiting, fifo.oldest(), *before.places()),
         TakenByteWiped if !is_dropped(before, fifo) => {
             let mut at = usize::from(before.oldest());
             while at != usize::from(fifo.oldest()) {
@@ -53,9 +88,10 @@ pub fn misplace(wrongly: Misplacement, before: &Fifo, fifo: &Fifo) -> Fifo {
         }
         OthersMoveUp => Some(moved_up(fifo)),
         DropKeepsTheEnd if is_dropped(before, fifo) => Fifo::of(0, end(before) as u8, places),
-        DropWipesThePlaces if is_dropped(before, fifo) => Some(Fifo::default()),
+        RaisedCodeWipesThePlaces if is_dropped(before, fifo) && is.has_interrupt() => Some(Fifo::default()),
+        StatusWipesThePlaces if is_dropped(before, fifo) && is_request && !is.has_interrupt() => Some(Fifo::default()),
+        SelectWipesThePlaces if matches!(is.running, Running::Select { .. }) && !was.is_busy() => Some(Fifo::default()),
         ReadOutGoesToTheFirstPlace if fifo.is_empty() && !before.is_empty() => Fifo::of(0, 0, places),
-        ResetKeepsThePlaces if places == [0; FIFO_SIZE] => Fifo::of(waiting, fifo.oldest(), *before.places()),
         _ => None,
     };
     misplaced.unwrap_or(*fifo)

@@ -37,7 +37,7 @@ pub enum Mistake {
 }
 
 impl Mistake {
-    pub const ALL: [Mistake; 40] = [
+    pub const ALL: [Mistake; 48] = [
         Mistake::CountFallsOnHostWrite,
         Mistake::AuxiliaryReadClearsInt,
         Mistake::SuccessCodeBeforeReadOut,
@@ -73,9 +73,17 @@ impl Mistake {
         Mistake::Places(Misplacement::TakenByteWiped),
         Mistake::Places(Misplacement::OthersMoveUp),
         Mistake::Places(Misplacement::DropKeepsTheEnd),
-        Mistake::Places(Misplacement::DropWipesThePlaces),
+        Mistake::Places(Misplacement::RaisedCodeWipesThePlaces),
+        Mistake::Places(Misplacement::StatusWipesThePlaces),
+        Mistake::Places(Misplacement::DroppedByteIsNotPut),
         Mistake::Places(Misplacement::ReadOutGoesToTheFirstPlace),
+        Mistake::Places(Misplacement::StartKeepsThePlaces),
+        Mistake::Places(Misplacement::ResumeKeepsThePlaces),
+        Mistake::Places(Misplacement::TransferInfoKeepsThePlaces),
+        Mistake::Places(Misplacement::DisconnectKeepsThePlaces),
         Mistake::Places(Misplacement::ResetKeepsThePlaces),
+        Mistake::Places(Misplacement::EmptyFifoIsNotWiped),
+        Mistake::Places(Misplacement::SelectWipesThePlaces),
         Mistake::Places(Misplacement::PlaceTwelveIsThere),
         Mistake::Places(Misplacement::UnusedPlaceRefused),
     ];
@@ -203,7 +211,7 @@ impl Mistake {
             {
                 mistranslate(wrongly, &before, state);
             }
-            (Mistake::Places(wrongly), _, _) => state.fifo = misplacement::misplace(wrongly, &before.fifo, &state.fifo),
+            (Mistake::Places(wrongly), _, _) => state.fifo = misplacement::misplace(wrongly, call, &before, state),
             _ => {}
         }
         answer

@@ -2,7 +2,7 @@
 //! the same calls to the library both have to be told the same (docs/IMAGE.md): every answer, value and lent byte; and bytes 0 to 40
 //! of the two images and the waiting bytes in their order have to stay the same. The model only guides the calls.
 //!
-//! Every drop takes both to the first place, so one of the two is moved anew every few calls: a new pair.
+//! Every drop takes both to the first place, and a start wipes both, so one of the two is moved anew every few calls: a new pair.
 
 use crate::call::{Call, Slice};
 use crate::guide::Guide;

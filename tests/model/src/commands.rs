@@ -142,7 +142,7 @@ impl Controller {
 
     /// "drops command, FIFO, ATN and held ACK; no interrupt (house)"; an ending goes too.
     fn disconnect(&mut self) {
-        self.fifo.clear();
+        self.fifo.wipe();
         self.way = Way::NotFixed;
         self.running = Running::Nothing;
         self.leave_bus();
@@ -158,7 +158,7 @@ impl Controller {
     }
 
     fn start_or_resume(&mut self, with_atn: bool) {
-        self.fifo.clear();
+        self.fifo.wipe();
         self.single = false;
         self.way = Way::NotFixed;
         let running = Running::SelectAndTransfer { with_atn };

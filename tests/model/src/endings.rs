@@ -26,7 +26,7 @@ impl Controller {
     /// stay until the next load: no rule looks at them before, and the library's images keep them (cases.txt).
     fn interrupt(&mut self, code: u8) {
         if self.way == Way::Out {
-            self.fifo.clear();
+            self.fifo.drop_waiting();
             self.way = Way::NotFixed;
         }
         self.running = Running::Nothing;

@@ -1,5 +1,5 @@
 //! "The FIFO holds 12 bytes (house)": a ring in which the ends travel. Every place shows in the image (docs/IMAGE.md), also one in
-//! which no byte waits, so a byte stays where it was put until another is put there.
+//! which no byte waits, so a byte stays where it was put until another is put there or all places are wiped.
 
 pub const FIFO_SIZE: usize = 12;
 
@@ -60,7 +60,7 @@ impl Fifo {
         self.waiting += 1;
     }
 
-    /// The oldest byte; one must wait. After the last one the next place is still the oldest's: only `clear` goes back to the first.
+    /// The oldest byte; one must wait. After the last one the next place is still the oldest's: it does not go back to the first.
     pub fn take(&mut self) -> u8 {
         assert!(!self.is_empty());
         let byte = self.byte(0);
@@ -69,9 +69,14 @@ impl Fifo {
         byte
     }
 
-    /// The ends go back to the first place; the bytes stay in theirs.
-    pub fn clear(&mut self) {
+    /// "bytes 40 and 41 become 0, and the places keep what they hold"
+    pub fn drop_waiting(&mut self) {
         self.oldest = 0;
         self.waiting = 0;
+    }
+
+    /// "the places become 0 too"
+    pub fn wipe(&mut self) {
+        *self = Fifo::default();
     }
 }

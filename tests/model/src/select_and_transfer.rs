@@ -141,7 +141,7 @@ impl Controller {
         self.registers[TARGET_LUN] = byte;
         self.set_phase_register(0x50);
         if self.way == Way::Out {
-            self.fifo.clear();
+            self.fifo.drop_waiting();
             self.way = Way::NotFixed;
         }
         Answer::Done(byte.into())

@@ -6,7 +6,7 @@ use crate::state::{Controller, Parity, Phase, Running, Way};
 impl Controller {
     /// "The count is loaded; zero or single byte means one, and then 12h to 14h read 0."
     pub(crate) fn start_transfer_info(&mut self, is_single: bool) {
-        self.fifo.clear();
+        self.fifo.wipe();
         self.single = is_single || self.count == 0;
         if self.single {
             self.count = 0;

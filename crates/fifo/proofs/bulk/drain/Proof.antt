@@ -10,11 +10,10 @@ use Rattle.chip.specs.Choice.{pick, both}
 use Rattle.chip.specs.Fifo.{waits, isEmpty}
 use Rattle.chip.proofs.FifoLaws.{round-below}
 use Rattle.fifo.specs.Bulk.{Bulk, drained}
-use Rattle.fifo.specs.Part.{partDrained}
 use Rattle.fifo.proofs.BulkLaws.{drained-none, drained-more, drained-most}
 use Rattle.fifo.proofs.Going.{Going, Ended, start, turn, over, full}
 use Rattle.fifo.proofs.Places.{under}
-use Rattle.fifo.proofs.Stored.{drained-stored, ends-length, some-front, turned, too-many, no-place, other-length}
+use Rattle.fifo.proofs.Stored.{run-stored, ends-length, some-front, turned, too-many, no-place, other-length}
 use borrow.Author.Needs.{needs}
 use Rattle.fifo.proofs.bulk.drain.Statement.{statement}
 use Rattle.fifo.proofs.bulk.drain.Tie as tie
@@ -22,7 +21,7 @@ use Rattle.fifo.proofs.bulk.drain.Tie as tie
 -- the part stays as it is until the end; the FIFO so far is its places under the ends so far
 abbrev Inv-loop : tie.InvT-loop
 Inv-loop part₀ out₀ first₀ held₀ i₀ part out first held i =
-    (part ≡ part₀) × (first < 12) × Going drained out₀ (under part₀ first₀ held₀) out (under part₀ first held) i
+    (part ≡ part₀) × (first < 12) × Going drained out₀ (under part₀ first₀ held₀) out (under part first held) i
 
 abbrev μ-loop : tie.MeasureT-loop
 μ-loop part₀ out₀ first₀ held₀ i₀ part out first held i = length out₀ - i
@@ -31,7 +30,7 @@ abbrev μ-loop : tie.MeasureT-loop
 abbrev Done : tie.At-loop Inv-loop μ-loop → Type 0
 Done a =
     let p = a .before .before .before .before .before .before .before .before .args .part .now in
-    Ended drained (a .before .before .before .before .before .before .before .before .args .out .now) (under p (getD p 1 0) (getD p 0 0)) (a .loop .out) (under p (a .loop .first) (a .loop .held)) (a .loop .i)
+    Ended drained (a .before .before .before .before .before .before .before .before .args .out .now) (under p (getD p 1 0) (getD p 0 0)) (a .loop .out) (under (a .loop .part) (a .loop .first) (a .loop .held)) (a .loop .i)
 
 emptied : (c : tie.Then4 Inv-loop μ-loop) → Done (c .before .before)
 unfolding isEmpty
@@ -51,7 +50,7 @@ fits a e =
     let w = drained-most (a .before .before .before .before .before .before .before .before .args .out .now) (under p (getD p 1 0) (getD p 0 0)) in
     omega (arith, a .before .before .if2 .left)
 
-some : (c : tie.Else4 Inv-loop μ-loop) → isEmpty (under (c .before .before .before .before .before .before .before .before .before .before .args .part .now) (c .before .before .loop .first) (c .before .before .loop .held)) ≡ false
+some : (c : tie.Else4 Inv-loop μ-loop) → isEmpty (under (c .before .before .loop .part) (c .before .before .loop .first) (c .before .before .loop .held)) ≡ false
 unfolding isEmpty
 some c = ne-eqb _ _ (c .if4 .left)
 
@@ -62,10 +61,10 @@ slice-read-held : tie.Need-slice-read-held Inv-loop μ-loop
 slice-read-held c = search needs
 
 returns : tie.Need-returns Inv-loop μ-loop
-returns c = too-many _ _ (c .if2 .taken)
+returns c = too-many drained _ _ (c .if2 .taken)
 
 returns-2 : tie.Need-returns-2 Inv-loop μ-loop
-returns-2 c = no-place _ _ (c .if3 .taken)
+returns-2 c = no-place drained _ _ (c .if3 .taken)
 
 loop-holds : tie.Need-loop-holds Inv-loop μ-loop
 loop-holds c = (refl, omega (arith, c .if3 .left), start drained _ _)
@@ -85,7 +84,7 @@ same-length-2 c = c .before .before .before .before .before .before .loop .inv .
 returns-3 : tie.Need-returns-3 Inv-loop μ-loop
 returns-3 c =
     let a = c .before .before .before .before .before .before in
-    drained-stored (a .before .before .before .before .before .before .before .before .args .part .now) _ _ _ _ _ _ _ (a .before .before .before .before .before .if1 .taken) (a .before .before .if2 .left) (a .before .if3 .left) (a .loop .inv .0) (emptied (c .before .before .before .before))
+    run-stored drained (a .before .before .before .before .before .before .before .before .args .part .now) _ _ (a .loop .part) _ _ _ _ (a .before .before .before .before .before .if1 .taken) (ap length (a .loop .inv .0) ∙ a .before .before .before .before .before .if1 .taken) (a .before .before .if2 .left) (a .before .if3 .left) (emptied (c .before .before .before .before))
     (c .before .before .set-ends .ensures)
 
 cast-at : tie.Need-cast-at Inv-loop μ-loop
@@ -117,16 +116,15 @@ loop-less c = omega (arith, c .before .before .before .before .loop .inv .2 .lon
 loop-again : tie.Need-loop-again Inv-loop μ-loop
 loop-again c =
     let a = c .before .before .before .before in
-    let p = a .before .before .before .before .before .before .before .before .args .part .now in
+    let p = a .loop .part in
     let h = c .before .before .before .loop-test .taken in
     let e = some (c .before .before) in
     let byte = some-front p (a .loop .first) (a .loop .held) e (a .loop .inv .1) in
-    let then = turned p (a .loop .first) (a .loop .held) e in
-    (
+    let then = turned p (a .loop .first) (a .loop .held) e in (
       a .loop .inv .0,
       omega (arith, c .next .ensures, round-below (a .loop .first + 1)),
       turn (a .loop .inv .2) _ _ h
-      (rw (drop-cons (a .loop .out) (a .loop .i) 0 h, a .loop .inv .0, byte, c .next .ensures, ← then) (drained-more _ _ _ e)),
+          (rw (drop-cons (a .loop .out) (a .loop .i) 0 h, byte, c .next .ensures, ← then) (drained-more _ _ _ e)),
     )
 
 set-ends-requires-2 : tie.Need-set-ends-requires-2 Inv-loop μ-loop
@@ -144,11 +142,11 @@ same-length-4 c = c .before .before .before .before .before .loop .inv .2 .long
 returns-4 : tie.Need-returns-4 Inv-loop μ-loop
 returns-4 c =
     let a = c .before .before .before .before .before in
-    drained-stored (a .before .before .before .before .before .before .before .before .args .part .now) _ _ _ _ _ _ _ (a .before .before .before .before .before .if1 .taken) (a .before .before .if2 .left) (a .before .if3 .left) (a .loop .inv .0) (ended (c .before .before .before .before))
+    run-stored drained (a .before .before .before .before .before .before .before .before .args .part .now) _ _ (a .loop .part) _ _ _ _ (a .before .before .before .before .before .if1 .taken) (ap length (a .loop .inv .0) ∙ a .before .before .before .before .before .if1 .taken) (a .before .before .if2 .left) (a .before .if3 .left) (ended (c .before .before .before .before))
     (c .before .before .set-ends2 .ensures)
 
 returns-5 : tie.Need-returns-5 Inv-loop μ-loop
-returns-5 c = other-length _ _ (c .if1 .left)
+returns-5 c = other-length drained _ _ (c .if1 .left)
 
 pub drain-spec : {M : Type 1} → statement M
 drain-spec =

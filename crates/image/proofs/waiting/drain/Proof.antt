@@ -2,8 +2,8 @@
 use mathlib.Core.Path.{refl}
 use borrow.Author.Tests.{ne-eqb}
 use Rattle.chip.specs.Choice.{pick, both}
-use Rattle.image.specs.Waiting.{holdsFifo, imageDrained}
-use Rattle.image.proofs.Ends.{drained-end}
+use Rattle.image.specs.Waiting.{holdsFifo, imageMoved}
+use Rattle.image.proofs.Ends.{run-end}
 use borrow.Author.Needs.{needs}
 use Rattle.image.proofs.waiting.drain.Statement.{statement}
 use Rattle.image.proofs.waiting.drain.Tie as tie
@@ -27,10 +27,10 @@ same-length-2 : tie.Need-same-length-2
 same-length-2 c = search needs
 
 returns : tie.Need-returns
-returns c = drained-end _ (c .before .before .before .before .before .before .before .if1 .taken) _ _ _ _ (c .before .before .before .before .drain .ensures)
+returns c = run-end _ (c .before .before .before .before .before .before .before .if1 .taken) _ _ _ _ (c .before .before .before .before .drain .ensures)
 
 returns-2 : tie.Need-returns-2
-unfolding imageDrained holdsFifo both pick
+unfolding imageMoved holdsFifo both pick
 returns-2 c = simp (ne-eqb _ _ (c .if1 .left)) (refl, refl, refl)
 
 pub drain-spec : {M : Type 1} → statement M

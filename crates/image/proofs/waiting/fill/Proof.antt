@@ -1,9 +1,9 @@
 -- `image::waiting::fill` meets its contract: what moves in the FIFO's part moves in the image.
 use mathlib.Core.Path.{refl}
 use borrow.Author.Tests.{ne-eqb}
-use Rattle.chip.specs.Choice.{pick}
-use Rattle.image.specs.Waiting.{imageFilled}
-use Rattle.image.proofs.Ends.{filled-end}
+use Rattle.chip.specs.Choice.{pick, both}
+use Rattle.image.specs.Waiting.{holdsFifo, imageMoved}
+use Rattle.image.proofs.Ends.{run-end}
 use borrow.Author.Needs.{needs}
 use Rattle.image.proofs.waiting.fill.Statement.{statement}
 use Rattle.image.proofs.waiting.fill.Tie as tie
@@ -24,10 +24,10 @@ same-length : tie.Need-same-length
 same-length c = search needs
 
 returns : tie.Need-returns
-returns c = filled-end _ (c .before .before .before .before .if1 .taken) _ _ _ _ (c .before .before .fill .ensures)
+returns c = run-end _ (c .before .before .before .before .if1 .taken) _ _ _ _ (c .before .before .fill .ensures)
 
 returns-2 : tie.Need-returns-2
-unfolding imageFilled pick
+unfolding imageMoved holdsFifo both pick
 returns-2 c = simp (ne-eqb _ _ (c .if1 .left)) (refl, refl)
 
 pub fill-spec : {M : Type 1} → statement M
