@@ -2,6 +2,7 @@
 use mathlib.Core.Path.{refl}
 use borrow.Author.Tests.{ne-eqb}
 use Rattle.chip.specs.Choice.{pick, both}
+use Rattle.fifo.specs.Bulk.{drained}
 use Rattle.image.specs.Waiting.{holdsFifo, imageMoved}
 use Rattle.image.proofs.Ends.{run-end}
 use borrow.Author.Needs.{needs}
@@ -27,7 +28,7 @@ same-length-2 : tie.Need-same-length-2
 same-length-2 c = search needs
 
 returns : tie.Need-returns
-returns c = run-end _ (c .before .before .before .before .before .before .before .if1 .taken) _ _ _ _ (c .before .before .before .before .drain .ensures)
+returns c = run-end _ (c .before .before .before .before .before .before .before .if1 .taken) drained _ _ _ _ (c .before .before .before .before .drain .ensures)
 
 returns-2 : tie.Need-returns-2
 unfolding imageMoved holdsFifo both pick

@@ -2,6 +2,7 @@
 use mathlib.Core.Path.{refl}
 use borrow.Author.Tests.{ne-eqb}
 use Rattle.chip.specs.Choice.{pick, both}
+use Rattle.fifo.specs.Bulk.{filled}
 use Rattle.image.specs.Waiting.{holdsFifo, imageMoved}
 use Rattle.image.proofs.Ends.{run-end}
 use borrow.Author.Needs.{needs}
@@ -24,7 +25,10 @@ same-length : tie.Need-same-length
 same-length c = search needs
 
 returns : tie.Need-returns
-returns c = run-end _ (c .before .before .before .before .if1 .taken) _ _ _ _ (c .before .before .fill .ensures)
+returns c =
+    let e = c .before .before .fill .ensures in
+    let u = run-end _ (c .before .before .before .before .if1 .taken) (filled (c .before .before .before .before .before .before .before .args .n)) _ _ _ _ (e .0, e .1, refl) in
+    (u .0, u .1)
 
 returns-2 : tie.Need-returns-2
 unfolding imageMoved holdsFifo both pick
