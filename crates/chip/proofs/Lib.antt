@@ -1,7 +1,6 @@
 pub mod Cases
 pub mod FifoLaws
 pub mod Before
-pub mod FifoSteps
 pub mod Numbers
 pub mod Activities
 pub mod Translate
@@ -19,3 +18,4 @@ pub mod BothRefused
 pub mod ImageFields
 pub mod ImageRegisters
 pub mod Moves
+pub mod FifoSteps
