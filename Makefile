@@ -60,6 +60,7 @@ test:
 	@mkdir -p build
 	@rt fmt --check
 	@tests/edits texts
+	@tests/places
 	@rt ci > build/ci.log 2>&1 || { cat build/ci.log; exit 1; }
 	@tests/edits
 	@$(MAKE) --no-print-directory outside

@@ -12,7 +12,7 @@ use mathlib.Core.Path.{_≡_, refl, ap, _∙_}
 use mathlib.Core.Bool.{true, false, true≢false}
 use mathlib.Core.List.{List, [], _∷_}
 use Prim.Native.Nat.{ℕ}
-use lib.Dec.{eqb, eqb·suc-zero}
+use lib.Dec.{eqb·suc-zero}
 use Rattle.chip.specs.Choice.{pick}
 use Rattle.chip.specs.Activity.{isEnding}
 use Rattle.chip.specs.State.{setFifo}

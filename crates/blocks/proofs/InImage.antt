@@ -5,7 +5,7 @@
 --   settled-made            an ending settled, where data comes in
 --   read-none read-settled read-calm   a block read: nothing moved, an ending settled, none under way
 --   written-made            a block written
-use mathlib.Core.Path.{_≡_, refl, ap, sym, subst, _∙_}
+use mathlib.Core.Path.{_≡_, ap, sym, subst, _∙_}
 use mathlib.Core.Bool.{true, false}
 use mathlib.Core.List.{List, _++_}
 use Prim.Native.Nat.{ℕ}
@@ -18,9 +18,8 @@ use Rattle.chip.specs.Fifo.{fifoBytes, Goes, stays, Whole}
 use Rattle.chip.specs.Image.{imageLength, imageOf, stateOf, fifoPlace}
 use Rattle.chip.specs.Interrupts.{inEnding, settled}
 use Rattle.chip.specs.Ok.{Ok}
-use Rattle.chip.specs.Registers.{Moved, blockRead, blockWritten}
+use Rattle.chip.specs.Registers.{blockRead, blockWritten}
 use Rattle.chip.specs.State.{fresh, setFifo}
-use Rattle.chip.specs.declared.Direction.{Direction}
 use Rattle.chip.specs.declared.Direction.the-variants.{In, Out}
 use Rattle.chip.specs.declared.Fifo.{Fifo}
 use Rattle.chip.specs.declared.State.{State}
@@ -29,7 +28,7 @@ use Rattle.chip.proofs.ImageFields.{fifo-stored, long}
 use Rattle.chip.proofs.ImageLaws.{image-valid, state-image}
 use Rattle.chip.proofs.ImageValid.{valid}
 use Rattle.fifo.specs.Bulk.{Bulk, drained, filled}
-use Rattle.fifo.proofs.BulkLaws.{drained-whole, filled-whole, drained-still}
+use Rattle.fifo.proofs.BulkLaws.{drained-whole, drained-still}
 use Rattle.image.specs.IsImage.{IsImage}
 use Rattle.image.specs.Waiting.{ImageMoved, holdsFifo, imageMoved, imageDrained, imageFilled, inImage}
 use Rattle.blocks.proofs.Blocks.{settled-in, settled-calm, read-in, written-out}

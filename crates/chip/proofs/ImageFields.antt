@@ -1,11 +1,11 @@
 -- A store into a state's image is the image of the state with one field changed.
 -- `written-out`: a state with its two arrays element by element is that state, so that its image computes.
 -- `pointer-stored`, `last-stored`, `low-stored`, `fifo-stored`: the field, and what is stored.
-use mathlib.Core.Path.{_≡_, refl, ap, sym, subst, _∙_}
-use mathlib.Core.List.{List, [], _++_}
+use mathlib.Core.Path.{_≡_, refl, subst, _∙_}
+use mathlib.Core.List.{List, _++_}
 use Prim.Native.Nat.{ℕ, _+_, _/_, _%_}
 use native.Mathlib.Omega.{arith}
-use lib.ListN.{length, set, take, drop}
+use lib.ListN.{length, set, take}
 use lib.Seq.{take-all}
 use Rattle.chip.specs.declared.State.{State}
 use Rattle.chip.specs.declared.Fifo.{Fifo}

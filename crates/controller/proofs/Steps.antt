@@ -2,7 +2,7 @@
 -- an image; t is their state as the code reads it, and `after..` are the bytes after each store.
 use mathlib.Core.Path.{_≡_, refl, ap, sym, subst, _∙_}
 use mathlib.Core.Bool.{Bool, true, false}
-use mathlib.Core.List.{List, [], _++_}
+use mathlib.Core.List.{List, _++_}
 use Prim.Native.Nat.{ℕ, _+_, _-_, _*_, _%_, _<_, _≤_}
 use native.Mathlib.Nat.{zero-add}
 use native.Mathlib.Omega.{arith}
@@ -12,7 +12,6 @@ use borrow.Author.Tests.{eq-eqb, ne-eqb, lt-ltb}
 use Rattle.chip.specs.Choice.{pick, both}
 use Rattle.chip.specs.Calls.{isSet}
 use Rattle.chip.specs.declared.State.{State}
-use Rattle.chip.specs.declared.Fifo.{Fifo}
 use Rattle.chip.specs.declared.Reply.{Reply}
 use Rattle.chip.specs.declared.Answer.the-variants.{Done, Held, ReselectionIgnored, NoDataNow}
 use Rattle.chip.specs.declared.Direction.the-variants.{In}
@@ -22,7 +21,7 @@ use Rattle.chip.specs.declared.Noted.the-variants.{Was}
 use Rattle.chip.specs.Answers.{done}
 use Rattle.chip.specs.Entries.{result}
 use Rattle.chip.specs.Fifo.{isEmpty, hasRoom, front, pop, push, fifoBytes, Goes}
-use Rattle.chip.specs.State.{fresh, setPointer, setFifo, setCount, setLast}
+use Rattle.chip.specs.State.{fresh, setPointer, setFifo}
 use Rattle.chip.specs.Image.{imageOf, stateOf, imageLength, fifoPlace}
 use Rattle.chip.specs.Phases.{phaseOf}
 use Rattle.chip.specs.Registers.{Moved, accessed, accessedAt, auxiliaryRead, pointerRead, pointerSet, stored, registerAt, blockRead, blockWritten}

@@ -6,7 +6,7 @@
 --   filled-more    another takes the slice's first byte, and then the rest
 --   takes-room     a FIFO that takes a byte has room
 --   filled-most    no more is written than there is room for
---   drained-whole filled-whole   it stays whole
+--   drained-whole  it stays whole
 --   drained-still  where nothing is read, it is as it was
 use mathlib.Core.Path.{_≡_, refl, ap}
 use mathlib.Core.Bool.{true, false}
@@ -85,11 +85,6 @@ pub drained-whole : (l : List ℕ) (q : Fifo) → Whole q → Whole (drained l q
 unfolding drained
 drained-whole [] q u = u
 drained-whole (b ∷ l) q u = by-pick (λ (r : Bulk). Whole (r .fifo)) _ u (drained-whole l (pop q) (keeps-bytes .pop-whole q u))
-
-pub filled-whole : (n : ℕ) (l : List ℕ) (q : Fifo) → Whole q → Whole (filled n l q .fifo)
-unfolding filled
-filled-whole n [] q u = u
-filled-whole n (b ∷ l) q u = by-pick (λ (r : Bulk). Whole (r .fifo)) _ (filled-whole n l (push b q) (keeps-bytes .push-whole q b u)) u
 
 -- where nothing moves, it is as it was
 pub drained-still : (l : List ℕ) (q : Fifo) → drained l q .moved ≡ 0 → drained l q .fifo ≡ q

@@ -7,15 +7,15 @@
 --   placed           one byte more, where there is room: the place behind the others is stored
 use mathlib.Core.Path.{_≡_, refl, ap, sym, _∙_}
 use mathlib.Core.Bool.{Bool, true, false}
-use mathlib.Core.List.{List, [], _∷_}
-use Prim.Native.Nat.{ℕ, suc, _+_, _-_, _<_, _≤_}
+use mathlib.Core.List.{List}
+use Prim.Native.Nat.{ℕ, _+_, _-_, _<_, _≤_}
 use native.Mathlib.Omega.{arith}
 use lib.Dec.{eqb, ltb}
 use lib.ListN.{length, take, drop, set, getD, length-set}
 use lib.Seq.{drop-set-add, getD-drop, getD-take, take-set-lt}
 use borrow.Author.Tests.{eq-eqb, ne-eqb, lt-ltb, le-ltb, ltb-true, ltb-false}
 use Rattle.chip.specs.Choice.{pick, both}
-use Rattle.chip.specs.Fifo.{isEmpty, hasRoom, front, pop, push, placeBehind, round, fifoBytes, fifoOf, isFifo}
+use Rattle.chip.specs.Fifo.{isEmpty, hasRoom, front, pop, push, placeBehind, round, fifoOf, isFifo}
 use Rattle.chip.specs.declared.Fifo.{Fifo}
 use Rattle.chip.proofs.Cases.{by-pick, by-test, taken, passed-over}
 use Rattle.chip.proofs.FifoLaws.{round-below, round-in, round-over}

@@ -99,7 +99,7 @@ Shaped s =
     (s .transfer .direction) (s .fifo) (s .wire .handshake .atn) (s .wire .handshake .ack) (s .wire .seen .reported)
 
 pub record Sound (s : State) : Type 0 where
-  -- lengths, the count below 2^24, the identity below 8, at most 12 bytes wait, the other places of the FIFO are 0
+  -- lengths, the count below 2^24, the identity below 8, at most 12 bytes wait, the oldest in one of twelve places
   pub ok : Ok s
   pub shape : Shaped s
 

@@ -1,9 +1,7 @@
 -- `blocks::block_read` meets its contract: each way of data is a case of its own.
-use mathlib.Core.Path.{_≡_, refl, ap, sym, _∙_}
+use mathlib.Core.Path.{refl, ap, sym, _∙_}
 use Rattle.chip.specs.declared.State.{State}
-use Rattle.chip.specs.declared.Direction.{Direction}
 use Rattle.chip.specs.Image.{stateOf}
-use Rattle.chip.specs.Registers.{Moved}
 use Rattle.blocks.proofs.InImage.{state-is}
 use Rattle.blocks.proofs.Blocks.{read-unfixed, read-out}
 use borrow.Author.Needs.{needs}

@@ -1,6 +1,5 @@
 -- `blocks::read_in` meets its contract: the run over the FIFO is the block of reads, and an ending settles once.
-use mathlib.Core.Path.{_≡_, ap, sym, _∙_}
-use mathlib.Core.Bool.{false}
+use mathlib.Core.Path.{ap, sym, _∙_}
 use Rattle.chip.specs.Interrupts.{inEnding}
 use Rattle.blocks.proofs.InImage.{state-is, still-image, still-in, read-none, read-settled, read-calm}
 use borrow.Author.Needs.{needs}

@@ -1,6 +1,6 @@
 -- `fifo::after` meets its contract: each way through the code is the definition's own way.
 use mathlib.Core.Path.{_≡_, sym, ap, _∙_}
-use Prim.Native.Nat.{ℕ, _+_}
+use Prim.Native.Nat.{_+_}
 use native.Mathlib.Omega.{arith}
 use Rattle.chip.specs.Fifo.{round}
 use Rattle.chip.proofs.FifoLaws.{round-in, round-over}

@@ -1,8 +1,6 @@
 -- `fifo::push` meets its contract: each way through the code is the definition's own way.
 use Prim.Native.Nat.{_+_}
 use native.Mathlib.Omega.{arith}
-use mathlib.Core.Path.{_≡_}
-use lib.ListN.{length}
 use borrow.Author.Tests.{lt-ltb, le-ltb}
 use Rattle.chip.specs.Choice.{pick}
 use Rattle.chip.specs.Fifo.{push, hasRoom, placeBehind}

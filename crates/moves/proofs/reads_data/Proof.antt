@@ -1,5 +1,4 @@
 -- `moves::reads_data` meets its contract: each way through the code is the definition's own way.
-use mathlib.Core.Path.{sym, _∙_}
 use borrow.Author.Tests.{eq-eqb, ne-eqb}
 use Rattle.chip.specs.Choice.{both}
 use Rattle.chip.specs.Moves.{readsData}

@@ -1,9 +1,7 @@
 -- `controller::in_place::register_read` meets its contract: the three short ways, and the long one.
 use lib.Dec.{eqb}
 use Rattle.chip.specs.Moves.{isPlain, readsData}
-use Rattle.chip.specs.Registers.{accessed}
 use Rattle.chip.specs.declared.State.{State}
-use mathlib.Core.Bool.{false}
 use Rattle.controller.proofs.Steps.{said, said-not, data-refused}
 use borrow.Author.Needs.{needs}
 use Rattle.controller.proofs.in_place.register_read.Statement.{statement}

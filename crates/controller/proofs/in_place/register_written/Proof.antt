@@ -1,9 +1,7 @@
 -- `controller::in_place::register_written` meets its contract: the three short ways, and the long one.
 use lib.Dec.{eqb}
 use Rattle.chip.specs.Moves.{isPlain, writesData}
-use Rattle.chip.specs.Registers.{accessed}
 use Rattle.chip.specs.declared.State.{State}
-use mathlib.Core.Bool.{true}
 use Rattle.controller.proofs.Steps.{said, said-not, data-written, write-refused}
 use borrow.Author.Needs.{needs}
 use Rattle.controller.proofs.in_place.register_written.Statement.{statement}

@@ -1,12 +1,11 @@
 -- `fifo::bulk::drain` meets its contract: its loop goes as `drained`. What moved waited, so its number fits.
-use mathlib.Core.Path.{_≡_, refl, ap, sym, _∙_}
+use mathlib.Core.Path.{_≡_, refl, ap, _∙_}
 use mathlib.Core.Bool.{false}
 use Prim.Native.Nat.{_+_, _-_, _<_}
 use native.Mathlib.Omega.{arith}
-use lib.ListN.{length, getD, length-set}
+use lib.ListN.{length, getD}
 use lib.Seq.{drop-cons}
-use borrow.Author.Tests.{eq-eqb, ne-eqb, le-ltb}
-use Rattle.chip.specs.Choice.{pick, both}
+use borrow.Author.Tests.{eq-eqb, ne-eqb}
 use Rattle.chip.specs.Fifo.{waits, isEmpty}
 use Rattle.chip.proofs.FifoLaws.{round-below}
 use Rattle.fifo.specs.Bulk.{Bulk, drained}

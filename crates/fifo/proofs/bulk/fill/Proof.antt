@@ -1,6 +1,6 @@
 -- `fifo::bulk::fill` meets its contract: its loop goes as `filled`. No more moved than there was room for, so its number fits.
 use mathlib.Core.Path.{_≡_, refl, ap, sym, _∙_}
-use mathlib.Core.Bool.{Bool, true, false}
+use mathlib.Core.Bool.{true}
 use mathlib.Core.List.{List}
 use Prim.Native.Nat.{ℕ, _+_, _-_, _<_}
 use native.Mathlib.Omega.{arith}

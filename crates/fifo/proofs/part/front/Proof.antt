@@ -1,9 +1,7 @@
 -- `fifo::part::front` meets its contract: the byte in the oldest one's place.
-use mathlib.Core.Path.{_≡_, sym, ap, _∙_}
-use native.Mathlib.Omega.{arith}
-use Prim.Native.Nat.{ℕ, _+_, _-_}
-use lib.ListN.{length, set, getD, length-set}
-use borrow.Author.Tests.{eq-eqb, ne-eqb, lt-ltb, le-ltb}
+use mathlib.Core.Path.{sym, _∙_}
+use Prim.Native.Nat.{_-_}
+use borrow.Author.Tests.{eq-eqb, ne-eqb}
 use Rattle.chip.specs.Choice.{pick}
 use Rattle.chip.proofs.Cases.{taken}
 use Rattle.fifo.proofs.Places.{front-in, none-in, beyond-in}

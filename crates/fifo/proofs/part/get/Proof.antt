@@ -1,5 +1,5 @@
 -- `fifo::part::get` meets its contract: the twelve places are copied.
-use mathlib.Core.Path.{_≡_, ap, sym, _∙_}
+use mathlib.Core.Path.{ap, sym, _∙_}
 use mathlib.Core.List.{List}
 use Prim.Native.Nat.{ℕ}
 use native.Mathlib.Omega.{arith}
@@ -7,7 +7,6 @@ use borrow.Author.Tests.{eq-eqb, ne-eqb}
 use lib.ListN.{getD}
 use Rattle.chip.specs.Choice.{pick}
 use Rattle.chip.specs.Fifo.{fifoOf}
-use Rattle.chip.specs.declared.Fifo.{Fifo}
 use Rattle.chip.proofs.Cases.{taken}
 use Rattle.fifo.proofs.Places.{copied, places-long}
 use borrow.Author.Needs.{needs}

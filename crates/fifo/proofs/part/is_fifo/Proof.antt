@@ -1,6 +1,6 @@
 -- `fifo::part::is_fifo` meets its contract: each way through the code is the definition's own way.
 use mathlib.Core.Bool.{Bool, true, false, _&&_}
-use mathlib.Core.Path.{_≡_, refl, sym}
+use mathlib.Core.Path.{_≡_, refl}
 use borrow.Author.Tests.{eq-eqb, ne-eqb}
 use Rattle.chip.specs.Choice.{both}
 use Rattle.chip.specs.Fifo.{isFifo}

@@ -1,8 +1,7 @@
 -- `fifo::part::pop` meets its contract: the ends are stored, and nothing else.
-use mathlib.Core.Path.{_≡_, sym, ap, _∙_}
-use native.Mathlib.Omega.{arith}
-use Prim.Native.Nat.{ℕ, _+_, _-_}
-use lib.ListN.{length, set, getD, length-set}
+use mathlib.Core.Path.{sym, ap, _∙_}
+use Prim.Native.Nat.{ℕ, _-_}
+use lib.ListN.{set, getD}
 use borrow.Author.Tests.{eq-eqb, ne-eqb}
 use Rattle.chip.specs.Choice.{pick}
 use Rattle.chip.proofs.Cases.{taken}

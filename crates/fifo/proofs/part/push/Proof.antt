@@ -1,12 +1,11 @@
 -- `fifo::part::push` meets its contract: the byte and the end behind it are stored, and nothing else.
-use mathlib.Core.Path.{_≡_, sym, ap, _∙_}
+use mathlib.Core.Path.{sym, ap, _∙_}
 use native.Mathlib.Omega.{arith}
 use Prim.Native.Nat.{ℕ, _+_, _-_}
-use lib.ListN.{length, set, getD, length-set}
+use lib.ListN.{set, getD}
 use borrow.Author.Tests.{eq-eqb, ne-eqb, lt-ltb, le-ltb}
 use Rattle.chip.specs.Choice.{pick}
 use Rattle.chip.proofs.Cases.{taken}
-use Rattle.chip.specs.Fifo.{round}
 use Rattle.chip.proofs.FifoLaws.{round-below}
 use Rattle.fifo.proofs.Places.{pushed-in, full-in}
 use borrow.Author.Needs.{needs}

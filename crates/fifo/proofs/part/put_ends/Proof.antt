@@ -3,10 +3,9 @@ use mathlib.Core.Path.{_≡_, sym, ap, _∙_}
 use native.Mathlib.Omega.{arith}
 use Prim.Native.Nat.{ℕ, _+_, _-_}
 use lib.ListN.{length, set, getD, length-set}
-use borrow.Author.Tests.{eq-eqb, ne-eqb, lt-ltb, le-ltb}
+use borrow.Author.Tests.{eq-eqb, ne-eqb}
 use Rattle.chip.specs.Choice.{pick}
 use Rattle.chip.proofs.Cases.{taken}
-use Rattle.chip.specs.Fifo.{round}
 use Rattle.chip.proofs.FifoLaws.{round-below}
 use Rattle.fifo.proofs.Places.{ends-in}
 use borrow.Author.Needs.{needs}

@@ -1,6 +1,4 @@
 -- `image::store::ends` meets its contract: one place and the ends are stored anew.
-use mathlib.Core.List.{List}
-use Prim.Native.Nat.{ℕ}
 use borrow.Author.Tests.{ne-eqb}
 use Rattle.chip.specs.Choice.{pick}
 use Rattle.chip.specs.Fifo.{endsOver}
