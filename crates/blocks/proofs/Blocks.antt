@@ -7,14 +7,12 @@
 --   written-in       coming in: nothing is written
 --   written-bytes    a write leaves the slice as it is
 --   settled-in       where data comes in, an ending that settles leaves the FIFO
---   settled-calm     where none is under way, nothing settles
 use mathlib.Core.Path.{_≡_, refl, ap, _∙_}
-use mathlib.Core.Bool.{true, false, true≢false}
+use mathlib.Core.Bool.{true, false}
 use mathlib.Core.List.{List, [], _∷_}
 use Prim.Native.Nat.{ℕ}
 use lib.Dec.{eqb·suc-zero}
 use Rattle.chip.specs.Choice.{pick}
-use Rattle.chip.specs.Activity.{isEnding}
 use Rattle.chip.specs.State.{setFifo}
 use Rattle.chip.specs.Fifo.{isEmpty, front, pop, push}
 use Rattle.chip.specs.Count.{left, dbr}
@@ -149,14 +147,3 @@ written-bytes-by l s Out e = rw (written-out l s e)
 
 pub written-bytes : (l : List ℕ) (s : State) → blockWritten l s .bytes ≡ l
 written-bytes l s = written-bytes-by l s (s .transfer .direction) refl
-
-calm-by : (a : Activity) (s : State) → isEnding a ≡ false → settledBy a s ≡ s
-unfolding settledBy
-calm-by Idle s e = refl
-calm-by Interrupt s e = refl
-calm-by (Runs r) s e = refl
-calm-by (Ends r k) s e = absurd (true≢false e)
-calm-by (ReadOut r) s e = absurd (true≢false e)
-
-pub settled-calm : (s : State) → isEnding (s .activity) ≡ false → settled s ≡ s
-settled-calm s c = by-test (isEmpty (s .fifo)) (λ e. settled-empty s e ∙ calm-by (s .activity) s c) (settled-waiting s)

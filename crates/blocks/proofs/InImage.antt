@@ -27,11 +27,12 @@ use Rattle.chip.proofs.Cases.{taken, passed-over}
 use Rattle.chip.proofs.ImageFields.{fifo-stored, long}
 use Rattle.chip.proofs.ImageLaws.{image-valid, state-image}
 use Rattle.chip.proofs.ImageValid.{valid}
+use Rattle.chip.proofs.Moves.{settled-quiet}
 use Rattle.fifo.specs.Bulk.{Bulk, drained, filled}
 use Rattle.fifo.proofs.BulkLaws.{drained-whole, drained-still}
 use Rattle.image.specs.IsImage.{IsImage}
 use Rattle.image.specs.Waiting.{ImageMoved, holdsFifo, imageMoved, imageDrained, imageFilled, inImage}
-use Rattle.blocks.proofs.Blocks.{settled-in, settled-calm, read-in, written-out}
+use Rattle.blocks.proofs.Blocks.{settled-in, read-in, written-out}
 
 pub image-is : (l : List ℕ) (s : State) → Ok s → l ≡ imageOf s → IsImage l
 image-is l s o e =
@@ -133,7 +134,7 @@ module _ (l : List ℕ) (o : IsImage l) where
       pub read-calm : inEnding (stateOf l) ≡ false → Read n a
       unfolding then
       read-calm c =
-          rw block (number, after-is ∙ ap imageOf (sym (passed-over _ _ moved-some ∙ settled-calm then c)), lent)
+          rw block (number, after-is ∙ ap imageOf (sym (passed-over _ _ moved-some ∙ settled-quiet then c)), lent)
 
   -- a block written
 

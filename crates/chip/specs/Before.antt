@@ -22,7 +22,7 @@ popBefore q = pick (isEmpty q) q (record { bytes = drop 1 (q .bytes) ++ (0 ∷ [
 unfoldable pub pushBefore : ℕ → Fifo → Fifo
 pushBefore b q = pick (hasRoom q) (record { bytes = set (q .bytes) (q .held) b; first = 0; held = q .held + 1 }) q
 
--- both ways of keeping go together: to move up after a step is to step as before
+-- both ways of keeping go together: to take a byte or put one in, and then move the bytes up, is to take or put one as before
 pub record KeptAsBefore : Type 0 where
   pub whole : (q : Fifo) → Whole q → Whole (movedUp q)
   pub bytes : (q : Fifo) → Whole q → waiting (movedUp q) ≡ waiting q

@@ -1,6 +1,6 @@
 -- How the FIFO keeps its bytes: in twelve places that go round. A byte stays in its place while it waits, and the two ends travel.
--- The rules use the eight names from `empty` to `push` and nothing else of a FIFO, the image those at the end. Each of them is that of
--- the list of waiting bytes (Queue.antt): this is `KeepsBytes`, and proofs/FifoLaws.antt has the proof. So how the bytes are kept is this
+-- The rules use the eight names from `empty` to `push` and nothing else of a FIFO, the image those at the end. Each of the eight is that
+-- of the list of waiting bytes (Queue.antt): this is `KeepsBytes`, and proofs/FifoLaws.antt has the proof. So how the bytes are kept is this
 -- file's and room fifo's alone.
 use mathlib.Core.Path.{_≡_}
 use mathlib.Core.Bool.{Bool, true, false}
@@ -89,7 +89,7 @@ pub record Whole (q : Fifo) : Type 0 where
   pub place : q .first < 12
   pub few : q .held < 13
 
--- what a Request does to the FIFO, or one access: of the places it touches at most the one behind those that wait.
+-- what a Request does to the FIFO: of the places it touches at most the one behind those that wait (proofs/FifoSteps.antt).
 -- A byte that is put in and dropped at once: only from a state that no calls lead to
 pub data Goes (q : Fifo) : Fifo → Type 0 where
   stays : Goes q q

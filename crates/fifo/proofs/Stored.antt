@@ -24,11 +24,6 @@ use Rattle.fifo.specs.Part.{isPart, partMoved}
 use Rattle.fifo.proofs.Going.{Ended}
 use Rattle.fifo.proofs.Places.{under, ends-put}
 
--- the FIFO of a part, by its own ends
-pub part-is : (p : List ℕ) → fifoOf p ≡ under p (getD p 1 0) (getD p 0 0)
-unfolding fifoOf
-part-is p = refl
-
 pub ends-length : (r p : List ℕ) (n k : ℕ) → r ≡ p → length (pick (eqb (length r) 14) (set (set r 0 n) 1 k) r) ≡ length p
 ends-length r p n k e =
     by-pick (λ (x : List ℕ). length x ≡ length p) _ (length-set (set r 0 n) 1 k ∙ length-set r 0 n ∙ ap length e) (ap length e)
