@@ -7,6 +7,7 @@ use crate::time;
 use chip::{Connection, Noted, Reply, Seen, State};
 use state::{activity, connections, set};
 
+#[tactic(auto, unfolding(chip::specs::Events::connected))]
 pub fn connected(s: State) -> State
     ensures { result ≡ connected s }
 {
@@ -17,6 +18,7 @@ pub fn connected(s: State) -> State
     set::connection(set::seen(s, nothing), Connection::Connected)
 }
 
+#[tactic(auto, unfolding(chip::specs::Choice::either))]
 fn atn_with(sets: bool, atn: bool) -> bool
     ensures { result ≡ either sets atn }
 {
@@ -26,6 +28,7 @@ fn atn_with(sets: bool, atn: bool) -> bool
     atn
 }
 
+#[tactic(auto, unfolding(chip::specs::Events::answered_state, chip::specs::Events::connected))]
 fn answered_state(s: State) -> State
     ensures { result ≡ answered_state s }
 {
@@ -33,6 +36,7 @@ fn answered_state(s: State) -> State
     connected(set::atn(s, atn))
 }
 
+#[tactic(auto, unfolding(chip::specs::Events::answered_selecting, chip::specs::Choice::pick, chip::specs::Interrupts::unless_interrupt))]
 fn answered_selecting(s: State) -> Reply
     ensures { result ≡ answered_selecting s }
 {
@@ -43,6 +47,7 @@ fn answered_selecting(s: State) -> Reply
     answers::done(0, interrupts::raise(0x11, t))
 }
 
+#[tactic(auto, unfolding(chip::specs::Events::answered_elsewhere, chip::specs::Choice::pick, chip::specs::Choice::both))]
 fn answered_elsewhere(s: State) -> Reply
     ensures { result ≡ answered_elsewhere s }
 {
@@ -55,6 +60,7 @@ fn answered_elsewhere(s: State) -> Reply
     answers::out_of_place(s)
 }
 
+#[tactic(auto, unfolding(chip::specs::Events::answered, chip::specs::Choice::pick))]
 pub fn answered(s: State) -> Reply
     ensures { result ≡ answered s }
 {

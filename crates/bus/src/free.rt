@@ -5,6 +5,7 @@ ghost use Rattle.chip.specs.Events.{bus_free, freed, freed_running, idle_free};
 use chip::{Connection, Reply, State};
 use state::{activity, connections, set};
 
+#[tactic(auto, unfolding(chip::specs::Events::bus_free))]
 fn bus_free(s: State) -> State
     ensures { result ≡ bus_free s }
 {
@@ -14,6 +15,7 @@ fn bus_free(s: State) -> State
     )
 }
 
+#[tactic(auto, unfolding(chip::specs::Events::idle_free, chip::specs::Interrupts::unless_interrupt, chip::specs::Choice::pick))]
 fn idle_free(s: State) -> Reply
     ensures { result ≡ idle_free s }
 {
@@ -23,6 +25,7 @@ fn idle_free(s: State) -> Reply
     answers::done(0, interrupts::raise(0x85, bus_free(s)))
 }
 
+#[tactic(auto, unfolding(chip::specs::Events::freed_running, chip::specs::Choice::pick))]
 fn freed_running(s: State) -> Reply
     ensures { result ≡ freed_running s }
 {
@@ -35,6 +38,7 @@ fn freed_running(s: State) -> Reply
     idle_free(s)
 }
 
+#[tactic(auto, unfolding(chip::specs::Events::freed, chip::specs::Choice::pick))]
 pub fn freed(s: State) -> Reply
     ensures { result ≡ freed s }
 {

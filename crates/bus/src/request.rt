@@ -8,6 +8,7 @@ ghost use Rattle.chip.specs.Events.{idle_request, is_served, remembered, remembe
 use chip::{Answer, Noted, Phase, Reply, State};
 use state::{activity, connections, set};
 
+#[tactic(auto, unfolding(chip::specs::Events::idle_request, chip::specs::Choice::pick, chip::specs::Interrupts::unless_interrupt))]
 fn idle_request(p: Phase, s: State) -> Reply
     ensures { result ≡ idle_request p s }
 {
@@ -20,6 +21,7 @@ fn idle_request(p: Phase, s: State) -> Reply
     answers::reports(interrupts::raise(phases::coded(0x88, p), set::reported(s, Noted::Was(p))))
 }
 
+#[tactic(auto, unfolding(chip::specs::Events::requested_running, chip::specs::Choice::pick))]
 fn requested_running(p: Phase, b: u8, bad: bool, s: State) -> Reply
     ensures { result ≡ requested_running p b bad s }
 {
@@ -32,6 +34,7 @@ fn requested_running(p: Phase, b: u8, bad: bool, s: State) -> Reply
     idle_request(p, s)
 }
 
+#[tactic(auto, unfolding(chip::specs::Events::requested_connected, chip::specs::Choice::pick))]
 fn requested_connected(p: Phase, b: u8, bad: bool, s: State) -> Reply
     ensures { result ≡ requested_connected p b bad s }
 {
@@ -45,6 +48,7 @@ fn requested_connected(p: Phase, b: u8, bad: bool, s: State) -> Reply
 }
 
 // A Request comes to the running command.
+#[tactic(auto, unfolding(chip::specs::Events::is_served, chip::specs::Choice::both))]
 pub fn is_served(s: State) -> bool
     ensures { result ≡ is_served s }
 {
@@ -61,6 +65,7 @@ pub fn is_served(s: State) -> bool
 }
 
 // "Connected only."
+#[tactic(auto, unfolding(chip::specs::Choice::pick, chip::specs::Events::requested_connected))]
 fn requested_anywhere(p: Phase, b: u8, bad: bool, s: State) -> Reply
     ensures { result ≡ pick (is_connected s.wire.connection) (requested_connected p b bad s) (out_of_place s) }
 {
@@ -87,6 +92,7 @@ fn remembered_by(a: Answer, p: Phase, r: Reply) -> Reply
     }
 }
 
+#[tactic(auto, unfolding(chip::specs::Events::remembered))]
 fn remembered(p: Phase, r: Reply) -> Reply
     ensures { result ≡ remembered p r }
 {
@@ -94,6 +100,7 @@ fn remembered(p: Phase, r: Reply) -> Reply
     remembered_by(a, p, r)
 }
 
+#[tactic(auto, unfolding(chip::specs::Events::requested))]
 pub fn requested(p: Phase, b: u8, bad: bool, s: State) -> Reply
     ensures { result ≡ requested p b bad s }
 {

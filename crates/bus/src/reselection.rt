@@ -8,12 +8,14 @@ use crate::answer;
 use chip::{Reply, State};
 use state::{activity, connections, get, set};
 
+#[tactic(auto, unfolding(chip::specs::Events::reselected_state))]
 fn reselected_state(data_lines: u8, s: State) -> State
     ensures { result ≡ reselected_state data_lines s }
 {
     answer::connected(set::source(s, lines::source_after(data_lines, s)))
 }
 
+#[tactic(auto, unfolding(chip::specs::Events::reselected_with_code, chip::specs::Interrupts::unless_interrupt, chip::specs::Choice::pick))]
 fn reselected_with_code(data_lines: u8, s: State) -> Reply
     ensures { result ≡ reselected_with_code data_lines s }
 {
@@ -23,6 +25,7 @@ fn reselected_with_code(data_lines: u8, s: State) -> Reply
     answers::done(0, interrupts::raise(0x80, reselected_state(data_lines, s)))
 }
 
+#[tactic(auto, unfolding(chip::specs::Events::names_target, chip::specs::Choice::both))]
 fn names_target(data_lines: u8, s: State) -> bool
     ensures { result ≡ names_target data_lines s }
 {
@@ -37,6 +40,7 @@ fn names_target(data_lines: u8, s: State) -> bool
 }
 
 // A waiting Select-And-Transfer is called back by its Target.
+#[tactic(auto, unfolding(chip::specs::Choice::both, chip::specs::Events::names_target))]
 fn is_awaited(data_lines: u8, s: State) -> bool
     ensures { result ≡ both (is_waiting s.wire.connection) (names_target data_lines s) }
 {
@@ -46,6 +50,7 @@ fn is_awaited(data_lines: u8, s: State) -> bool
     false
 }
 
+#[tactic(auto, unfolding(chip::specs::Events::reselected_apart, chip::specs::Choice::pick))]
 fn reselected_apart(data_lines: u8, s: State) -> Reply
     ensures { result ≡ reselected_apart data_lines s }
 {
@@ -58,6 +63,7 @@ fn reselected_apart(data_lines: u8, s: State) -> Reply
     reselected_with_code(data_lines, s)
 }
 
+#[tactic(auto, unfolding(chip::specs::Events::reselected, chip::specs::Choice::pick))]
 pub fn reselected(data_lines: u8, s: State) -> Reply
     ensures { result ≡ reselected data_lines s }
 {

@@ -5,6 +5,7 @@ ghost use Rattle.chip.specs.Events.{passed, selection_time, selects, timed_out};
 use chip::{Connection, Reply, State};
 use state::{activity, connections, set};
 
+#[tactic(auto, unfolding(chip::specs::Events::timed_out))]
 fn timed_out(s: State) -> State
     ensures { result ≡ timed_out s }
 {
@@ -18,6 +19,7 @@ fn summed(elapsed: u8, n: u8) -> u32
     (elapsed as u32) + (n as u32)
 }
 
+#[tactic(auto, unfolding(chip::specs::Events::selection_time, chip::specs::Choice::pick))]
 fn selection_time(n: u8, s: State) -> Reply
     ensures { result ≡ selection_time n s }
 {
@@ -33,6 +35,7 @@ fn selection_time(n: u8, s: State) -> Reply
 }
 
 // A selection runs.
+#[tactic(auto, unfolding(chip::specs::Events::selects, chip::specs::Choice::both))]
 pub fn selects(s: State) -> bool
     ensures { result ≡ selects s }
 {
@@ -42,6 +45,7 @@ pub fn selects(s: State) -> bool
     false
 }
 
+#[tactic(auto, unfolding(chip::specs::Events::passed, chip::specs::Choice::pick))]
 pub fn passed(n: u8, s: State) -> Reply
     ensures { result ≡ passed n s }
 {

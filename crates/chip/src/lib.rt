@@ -3,19 +3,19 @@
 #![tactic(auto)]
 
 // A bus identity, 0 to 7: the data sheet's bus ID.
-#[derive(Drop)]
+#[derive(Clone, Copy)]
 pub struct Identity {
     pub number: u8,
 }
 
 // A logical unit number, 0 to 7: the data sheet's LUN. It has a type of its own, so that it is never taken for a bus identity.
-#[derive(Drop)]
+#[derive(Clone, Copy)]
 pub struct Lun {
     pub number: u8,
 }
 
 // The nine answers, in the paper's order. Done carries its value: the byte read or crossed, the number that a block moved, else 0.
-#[derive(Drop)]
+#[derive(Clone, Copy)]
 pub enum Answer {
     Done(u8),
     Held,
@@ -29,7 +29,7 @@ pub enum Answer {
 }
 
 // What the bus and we are to each other.
-#[derive(Drop)]
+#[derive(Clone, Copy)]
 pub enum Connection {
     Disconnected,
     Selecting,
@@ -38,7 +38,7 @@ pub enum Connection {
 }
 
 // The Level II commands that run from call to call.
-#[derive(Drop)]
+#[derive(Clone, Copy)]
 pub enum Command {
     SelectWithAtn,
     SelectWithoutAtn,
@@ -50,7 +50,7 @@ pub enum Command {
 // What the controller is at: the command that runs, and what is pending for the host, as one sum. INT is set in Interrupt and nowhere
 // else, BSY where there is a command. So no state has INT and BSY, nor INT and an ending: there is no way to write it down.
 // Ends holds the code that is raised when the incoming bytes are read out; ReadOut raises none and waits for reselection then.
-#[derive(Drop)]
+#[derive(Clone, Copy)]
 pub enum Activity {
     Idle,
     Interrupt,
@@ -60,7 +60,7 @@ pub enum Activity {
 }
 
 // The way that data goes, as far as a command has fixed it.
-#[derive(Drop)]
+#[derive(Clone, Copy)]
 pub enum Direction {
     Unfixed,
     In,
@@ -68,7 +68,7 @@ pub enum Direction {
 }
 
 // The phase of a Request, 0 to 7: MSG, C/D and I/O as 4, 2 and 1.
-#[derive(Drop)]
+#[derive(Clone, Copy)]
 pub enum Phase {
     DataOut,
     DataIn,
@@ -81,14 +81,14 @@ pub enum Phase {
 }
 
 // A phase that the controller keeps in mind, or none.
-#[derive(Drop)]
+#[derive(Clone, Copy)]
 pub enum Noted {
     NoPhase,
     Was(Phase),
 }
 
 // What a driver sets up: Own ID (00), Control (01), Timeout Period (02), Synchronous Transfer (11h).
-#[derive(Drop)]
+#[derive(Clone, Copy)]
 pub struct Setup {
     pub own: u8,
     pub control: u8,
@@ -97,7 +97,7 @@ pub struct Setup {
 }
 
 // What a Select-And-Transfer works through: CDB 1 to 12 (03 to 0Eh), Target LUN (0Fh), Command Phase (10h).
-#[derive(Drop)]
+#[derive(Clone, Copy)]
 pub struct Descriptor {
     pub cdb: [u8; 12],
     pub lun: u8,
@@ -105,7 +105,7 @@ pub struct Descriptor {
 }
 
 // Registers 00 to 16h: the two above, Transfer Count (12h to 14h, high byte first), Destination ID (15h), Source ID (16h).
-#[derive(Drop)]
+#[derive(Clone, Copy)]
 pub struct Registers {
     pub setup: Setup,
     pub descriptor: Descriptor,
@@ -115,7 +115,7 @@ pub struct Registers {
 }
 
 // What the host sees beside the registers: the pointer, SCSI Status (17h), Command (18h), LCI and PE. INT and BSY are the activity's.
-#[derive(Drop)]
+#[derive(Clone, Copy)]
 pub struct Status {
     pub pointer: u8,
     pub code: u8,
@@ -126,7 +126,7 @@ pub struct Status {
 
 // Twelve places that go round. `held` bytes wait: the oldest in the place `first`, each younger one in the next. What stands in the other
 // places nobody asks.
-#[derive(Drop)]
+#[derive(Clone, Copy)]
 pub struct Fifo {
     pub bytes: [u8; 12],
     pub first: u8,
@@ -134,28 +134,28 @@ pub struct Fifo {
 }
 
 // The way of data, and whether the count stands for the single byte that 12h to 14h do not show.
-#[derive(Drop)]
+#[derive(Clone, Copy)]
 pub struct Transfer {
     pub direction: Direction,
     pub single: bool,
 }
 
 // The two lines that we hold on the bus: ATN, and ACK where a byte is not let go.
-#[derive(Drop)]
+#[derive(Clone, Copy)]
 pub struct Handshake {
     pub atn: bool,
     pub ack: bool,
 }
 
 // The phases kept in mind: the reported one, and that of the last Request answered Done or Reported since connection.
-#[derive(Drop)]
+#[derive(Clone, Copy)]
 pub struct Seen {
     pub reported: Noted,
     pub last: Noted,
 }
 
 // The bus: the connection, the lines and phases above, our identity, and the units of time that have added up while selecting.
-#[derive(Drop)]
+#[derive(Clone, Copy)]
 pub struct Wire {
     pub connection: Connection,
     pub handshake: Handshake,
@@ -164,7 +164,7 @@ pub struct Wire {
     pub elapsed: u8,
 }
 
-#[derive(Drop)]
+#[derive(Clone, Copy)]
 pub struct State {
     pub registers: Registers,
     pub status: Status,
@@ -175,21 +175,21 @@ pub struct State {
 }
 
 // What a call gives: its answer and the new state.
-#[derive(Drop)]
+#[derive(Clone, Copy)]
 pub struct Reply {
     pub answer: Answer,
     pub state: State,
 }
 
 // The level of a command (001, Command List).
-#[derive(Drop)]
+#[derive(Clone, Copy)]
 pub enum Level {
     One,
     Two,
 }
 
 // The connections in which a command is valid.
-#[derive(Drop)]
+#[derive(Clone, Copy)]
 pub enum Place {
     Nowhere,
     Anywhere,
@@ -200,7 +200,7 @@ pub enum Place {
 }
 
 // A line of the command table.
-#[derive(Drop)]
+#[derive(Clone, Copy)]
 pub struct Entry {
     pub level: Level,
     pub place: Place,
@@ -208,7 +208,7 @@ pub struct Entry {
 
 // What the command phase register (10h) stands for while a Select-And-Transfer runs: what is expected next.
 // SendCommand holds how many command bytes were taken.
-#[derive(Drop)]
+#[derive(Clone, Copy)]
 pub enum Stage {
     SendIdentify,
     SendCommand(u8),

@@ -180,6 +180,7 @@ const TABLE: [Entry; 34] = [
     },
 ];
 
+#[tactic(auto, unfolding(chip::specs::Commands::entry_of, chip::specs::Commands::table))]
 pub fn entry_of(n: u8) -> Entry
     ensures { result ≡ entry_of n }
 {
@@ -203,6 +204,7 @@ pub fn is_two(l: Level) -> bool
     }
 }
 
+#[tactic(auto, unfolding(chip::specs::Choice::either))]
 fn is_connected_or_waiting(s: State) -> bool
     ensures { result ≡ is_place Place.WhenConnectedOrWaiting s.wire.connection }
 {
@@ -212,6 +214,7 @@ fn is_connected_or_waiting(s: State) -> bool
     connections::is_waiting(s)
 }
 
+#[tactic(auto, unfolding(chip::specs::Choice::either))]
 fn is_connected_or_disconnected(s: State) -> bool
     ensures { result ≡ is_place Place.WhenConnectedOrDisconnected s.wire.connection }
 {

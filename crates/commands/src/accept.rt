@@ -20,6 +20,7 @@ fn is_some(n: Noted) -> bool
 }
 
 // Select-And-Transfer.
+#[tactic(auto, unfolding(chip::specs::Choice::pick, chip::specs::SelectAndTransfer::is_resumable, chip::specs::SelectAndTransfer::has_size))]
 fn is_transferable(s: State) -> bool
     ensures { result ≡ pick (is_connected s.wire.connection) (is_resumable s) (has_size s) }
 {
@@ -30,6 +31,7 @@ fn is_transferable(s: State) -> bool
 }
 
 // Transfer Info.
+#[tactic(auto, unfolding(chip::specs::Choice::both))]
 fn is_informable(s: State) -> bool
     ensures { result ≡ both (not s.wire.handshake.ack) (is_some s.wire.seen.reported) }
 {
@@ -39,6 +41,7 @@ fn is_informable(s: State) -> bool
     is_some(get::reported(s))
 }
 
+#[tactic(auto, unfolding(chip::specs::Commands::is_ready, chip::specs::Choice::pick, chip::specs::Choice::both, chip::specs::Choice::either))]
 fn is_ready(n: u8, s: State) -> bool
     ensures { result ≡ is_ready n s }
 {
@@ -65,6 +68,7 @@ fn is_in_place(e: Entry, s: State) -> bool
 }
 
 // e is the table's entry for code c.
+#[tactic(auto, unfolding(chip::specs::Choice::both, chip::specs::Commands::is_ready))]
 pub fn is_valid(e: Entry, n: u8, s: State) -> bool
     ensures { result ≡ both (is_place e.place s.wire.connection) (is_ready n s) }
 {
@@ -82,6 +86,7 @@ fn is_level_two(e: Entry) -> bool
 }
 
 // Level II, or not valid now.
+#[tactic(auto, unfolding(chip::specs::Choice::either, chip::specs::Choice::both, chip::specs::Commands::is_ready))]
 fn is_out_of_turn(e: Entry, n: u8, s: State) -> bool
     ensures { result ≡ either (is_two e.level) (not (both (is_place e.place s.wire.connection) (is_ready n s))) }
 {
@@ -94,6 +99,7 @@ fn is_out_of_turn(e: Entry, n: u8, s: State) -> bool
     true
 }
 
+#[tactic(auto, unfolding(chip::specs::Choice::both, chip::specs::Interrupts::busy, chip::specs::Choice::either, chip::specs::Commands::is_ready))]
 pub fn is_refused_busy(e: Entry, n: u8, s: State) -> bool
     ensures { result ≡ both (busy s) (either (is_two e.level) (not (both (is_place e.place s.wire.connection) (is_ready n s)))) }
 {
@@ -103,6 +109,7 @@ pub fn is_refused_busy(e: Entry, n: u8, s: State) -> bool
     false
 }
 
+#[tactic(auto, unfolding(chip::specs::Commands::accepted))]
 pub fn accepted(b: u8, s: State) -> State
     ensures { result ≡ accepted b s }
 {

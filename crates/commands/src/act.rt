@@ -6,6 +6,7 @@ use chip::{Activity, Command, Connection, Direction, Noted, Phase, State, Status
 use select_and_transfer::resume;
 use state::{connections, fresh, get, set};
 
+#[tactic(auto, unfolding(chip::specs::Commands::reset, chip::specs::Commands::reset_code))]
 pub fn reset(b: u8, s: State) -> State
     ensures { result ≡ reset b s }
 {
@@ -40,6 +41,7 @@ fn abort_phase(n: Noted) -> Phase
     }
 }
 
+#[tactic(auto, unfolding(chip::specs::Commands::aborted, chip::specs::Choice::pick))]
 pub fn aborted(s: State) -> State
     ensures { result ≡ aborted s }
 {
@@ -50,6 +52,7 @@ pub fn aborted(s: State) -> State
     interrupts::raise(0x22, set::connection(s, Connection::Disconnected))
 }
 
+#[tactic(auto, unfolding(chip::specs::Commands::disconnected))]
 pub fn disconnected(s: State) -> State
     ensures { result ≡ disconnected s }
 {
@@ -61,6 +64,7 @@ pub fn disconnected(s: State) -> State
     )
 }
 
+#[tactic(auto, unfolding(chip::specs::Commands::selecting))]
 pub fn selecting(r: Command, s: State) -> State
     ensures { result ≡ selecting r s }
 {
@@ -70,6 +74,7 @@ pub fn selecting(r: Command, s: State) -> State
     )
 }
 
+#[tactic(auto, unfolding(chip::specs::Commands::select_and_transfer_begun, chip::specs::Choice::pick))]
 pub fn select_and_transfer_begun(r: Command, s: State) -> State
     ensures { result ≡ select_and_transfer_begun r s }
 {
@@ -79,6 +84,7 @@ pub fn select_and_transfer_begun(r: Command, s: State) -> State
     selecting(r, resume::from_disconnected(s))
 }
 
+#[tactic(auto, unfolding(chip::specs::Choice::pick))]
 fn direction_of(p: Phase) -> Direction
     ensures { result ≡ way_of (Noted.Was p) }
 {
@@ -97,6 +103,7 @@ fn way_of(n: Noted) -> Direction
     }
 }
 
+#[tactic(auto, unfolding(chip::specs::Commands::transfer_info_begun))]
 pub fn transfer_info_begun(single: bool, s: State) -> State
     ensures { result ≡ transfer_info_begun single s }
 {

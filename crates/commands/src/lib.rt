@@ -10,6 +10,7 @@ ghost use Rattle.chip.specs.Commands.{carried_out, commanded};
 use chip::{Command, Reply, State};
 use state::set;
 
+#[tactic(auto, unfolding(chip::specs::Commands::carried_out, chip::specs::Choice::pick))]
 fn carried_out(n: u8, single: bool, s: State) -> State
     ensures { result ≡ carried_out n single s }
 {
@@ -50,6 +51,7 @@ fn carried_out(n: u8, single: bool, s: State) -> State
 }
 
 // A write of b to the command register.
+#[tactic(auto, unfolding(chip::specs::Commands::is_valid, chip::specs::Commands::is_refused_busy, chip::specs::Commands::commanded, chip::specs::Choice::pick))]
 pub fn commanded(b: u8, s: State) -> Reply
     ensures { result ≡ commanded b s }
 {

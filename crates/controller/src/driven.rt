@@ -17,6 +17,7 @@ fn weighted(flag: bool, weight: u8) -> u8
 }
 
 // The answer of am33c93a_lines: Done, with the lines as its value.
+#[tactic(auto, unfolding(chip::specs::Entries::line_bits, chip::specs::Entries::connection_bits))]
 pub fn line_result(s: State) -> u32
     ensures { result ≡ 256 * line_bits s }
 {

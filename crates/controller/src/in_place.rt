@@ -175,6 +175,7 @@ fn byte_sent(byte: u8, bad: bool, image: &mut [u8]) -> u32
 }
 
 // A Request of Data In with good parity.
+#[tactic(auto, unfolding(chip::specs::Phases::phase_of, chip::specs::Choice::pick))]
 fn request_in(byte: u8, image: &mut [u8]) -> u32
     requires { IsImage image.old }
     ensures { Returns (requested Phase.DataIn byte false (state_of image.old)) result image.new }
@@ -190,6 +191,7 @@ fn request_in(byte: u8, image: &mut [u8]) -> u32
 }
 
 // A Request of Data Out.
+#[tactic(auto, unfolding(chip::specs::Phases::phase_of, chip::specs::Choice::pick))]
 fn request_out(byte: u8, bad: bool, image: &mut [u8]) -> u32
     requires { IsImage image.old }
     ensures { Returns (requested Phase.DataOut byte bad (state_of image.old)) result image.new }

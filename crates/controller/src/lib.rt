@@ -35,6 +35,7 @@ pub extern "C" fn am33c93a_fresh(image: &mut [u8]) -> u32
     BAD_NUMBER
 }
 
+#[tactic(auto, unfolding(chip::specs::Calls::is_good, chip::specs::Calls::carried))]
 #[unsafe(no_mangle)]
 pub extern "C" fn am33c93a_pointer(image: &mut [u8], mark: u32, byte: u32) -> u32
     ensures { (result ≡ (entered (Calls.pointer mark byte) image.old).result)
@@ -52,6 +53,7 @@ pub extern "C" fn am33c93a_pointer(image: &mut [u8], mark: u32, byte: u32) -> u3
     BAD_NUMBER
 }
 
+#[tactic(auto, unfolding(chip::specs::Calls::is_good, chip::specs::Calls::carried))]
 #[unsafe(no_mangle)]
 pub extern "C" fn am33c93a_auxiliary(image: &mut [u8]) -> u32
     ensures { (result ≡ (entered Calls.auxiliary image.old).result)
@@ -63,6 +65,7 @@ pub extern "C" fn am33c93a_auxiliary(image: &mut [u8]) -> u32
     BAD_NUMBER
 }
 
+#[tactic(auto, unfolding(chip::specs::Calls::is_good, chip::specs::Calls::carried))]
 #[unsafe(no_mangle)]
 pub extern "C" fn am33c93a_register(image: &mut [u8], mark: u32, byte: u32) -> u32
     ensures { (result ≡ (entered (Calls.register mark byte) image.old).result)
@@ -98,6 +101,7 @@ pub extern "C" fn am33c93a_block(image: &mut [u8], mark: u32, bytes: &mut [u8]) 
     BAD_NUMBER
 }
 
+#[tactic(auto, unfolding(chip::specs::Calls::is_good, chip::specs::Calls::carried))]
 #[unsafe(no_mangle)]
 pub extern "C" fn am33c93a_time(image: &mut [u8], units: u32) -> u32
     ensures { (result ≡ (entered (Calls.time units) image.old).result)
@@ -112,6 +116,7 @@ pub extern "C" fn am33c93a_time(image: &mut [u8], units: u32) -> u32
     BAD_NUMBER
 }
 
+#[tactic(auto, unfolding(chip::specs::Calls::is_good, chip::specs::Calls::carried))]
 #[unsafe(no_mangle)]
 pub extern "C" fn am33c93a_answer(image: &mut [u8]) -> u32
     ensures { (result ≡ (entered Calls.answer image.old).result)
@@ -125,6 +130,7 @@ pub extern "C" fn am33c93a_answer(image: &mut [u8]) -> u32
     BAD_NUMBER
 }
 
+#[tactic(auto, unfolding(chip::specs::Calls::is_good, chip::specs::Calls::carried))]
 #[unsafe(no_mangle)]
 pub extern "C" fn am33c93a_reselection(image: &mut [u8], lines: u32) -> u32
     ensures { (result ≡ (entered (Calls.reselection lines) image.old).result)
@@ -139,6 +145,7 @@ pub extern "C" fn am33c93a_reselection(image: &mut [u8], lines: u32) -> u32
     BAD_NUMBER
 }
 
+#[tactic(auto, unfolding(chip::specs::Calls::is_good, chip::specs::Calls::carried))]
 #[unsafe(no_mangle)]
 pub extern "C" fn am33c93a_request(image: &mut [u8], phase: u32, byte: u32, parity: u32) -> u32
     ensures { (result ≡ (entered (Calls.request phase byte parity) image.old).result)
@@ -159,6 +166,7 @@ pub extern "C" fn am33c93a_request(image: &mut [u8], phase: u32, byte: u32, pari
     BAD_NUMBER
 }
 
+#[tactic(auto, unfolding(chip::specs::Calls::is_good, chip::specs::Calls::carried))]
 #[unsafe(no_mangle)]
 pub extern "C" fn am33c93a_free(image: &mut [u8]) -> u32
     ensures { (result ≡ (entered Calls.free image.old).result)

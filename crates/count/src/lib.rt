@@ -9,6 +9,7 @@ ghost use Rattle.chip.specs.Count.{dbr, dbr_by, left, none_left, is_last, lowere
 use chip::{Direction, State};
 use state::{get, set};
 
+#[tactic(auto, unfolding(chip::specs::Count::left, chip::specs::Choice::pick))]
 pub fn left(s: State) -> u32
     ensures { result ≡ left s }
 {
@@ -18,12 +19,14 @@ pub fn left(s: State) -> u32
     s.registers.count
 }
 
+#[tactic(auto, unfolding(chip::specs::Count::none_left))]
 pub fn none_left(s: State) -> bool
     ensures { result ≡ none_left s }
 {
     left(s) == 0
 }
 
+#[tactic(auto, unfolding(chip::specs::Count::is_last))]
 pub fn is_last(s: State) -> bool
     ensures { result ≡ is_last s }
 {
@@ -38,6 +41,7 @@ fn is_unwritten(s: State) -> bool
     (fifo::waits(q) as u32) < left(s)
 }
 
+#[tactic(auto, unfolding(chip::specs::Choice::both))]
 fn opens_out(s: State) -> bool
     ensures { result ≡ dbr_by Direction.Out s }
 {
@@ -61,6 +65,7 @@ fn dbr_by(d: Direction, s: State) -> bool
     }
 }
 
+#[tactic(auto, unfolding(chip::specs::Count::dbr))]
 pub fn dbr(s: State) -> bool
     ensures { result ≡ dbr s }
 {
@@ -77,6 +82,7 @@ fn less(n: u32) -> u32
     n - 1
 }
 
+#[tactic(auto, unfolding(chip::specs::Choice::pick))]
 fn count_after(single: bool, n: u32) -> u32
     ensures { result ≡ pick single 0 (n - 1) }
 {
@@ -86,6 +92,7 @@ fn count_after(single: bool, n: u32) -> u32
     less(n)
 }
 
+#[tactic(auto, unfolding(chip::specs::Count::lowered))]
 pub fn lowered(s: State) -> State
     ensures { result ≡ lowered s }
 {
@@ -95,6 +102,7 @@ pub fn lowered(s: State) -> State
     )
 }
 
+#[tactic(auto, unfolding(chip::specs::Count::loaded))]
 pub fn loaded(s: State) -> State
     ensures { result ≡ loaded s }
 {
@@ -104,6 +112,7 @@ pub fn loaded(s: State) -> State
     )
 }
 
+#[tactic(auto, unfolding(chip::specs::Count::means_one, chip::specs::Choice::either))]
 pub fn means_one(single: bool, s: State) -> bool
     ensures { result ≡ means_one single s }
 {
@@ -113,6 +122,7 @@ pub fn means_one(single: bool, s: State) -> bool
     s.registers.count == 0
 }
 
+#[tactic(auto, unfolding(chip::specs::Count::loaded_for_transfer_info, chip::specs::Choice::pick))]
 pub fn loaded_for_transfer_info(single: bool, s: State) -> State
     ensures { result ≡ loaded_for_transfer_info single s }
 {

@@ -7,6 +7,7 @@ ghost use Rattle.fifo.specs.Part.{part_drained, part_filled};
 use crate::part;
 use crate::part::LENGTH;
 
+#[tactic(auto, unfolding(chip::specs::Fifo::is_empty, crate::specs::Bulk::drained, chip::specs::Fifo::waits))]
 pub fn drain(part: &mut [u8], out: &mut [u8]) -> u8
     ensures { (result ≡ (part_drained out.old part.old).moved)
         × (part.new ≡ (part_drained out.old part.old).part)
@@ -40,6 +41,7 @@ pub fn drain(part: &mut [u8], out: &mut [u8]) -> u8
 }
 
 // A FIFO in which held bytes wait takes another.
+#[tactic(auto, unfolding(chip::specs::Choice::both))]
 fn takes(n: u32, held: u8) -> bool
     ensures { result ≡ both (ltb held n) (ltb held 12) }
 {
@@ -49,6 +51,7 @@ fn takes(n: u32, held: u8) -> bool
     false
 }
 
+#[tactic(auto, unfolding(crate::specs::Bulk::takes, chip::specs::Fifo::waits, chip::specs::Fifo::has_room, crate::specs::Bulk::filled))]
 pub fn fill(n: u32, part: &mut [u8], from: &[u8]) -> u8
     ensures { (result ≡ (part_filled n from.now part.old).moved)
         × (part.new ≡ (part_filled n from.now part.old).part) }

@@ -11,6 +11,7 @@ ghost use Rattle.chip.specs.Fifo.{empty, emptied, is_empty, has_room, front, pop
 use chip::Fifo;
 
 // The place of a number: the twelve go round.
+#[tactic(auto, unfolding(chip::specs::Fifo::round, chip::specs::Choice::pick))]
 fn round(n: u32) -> u8
     ensures { result ≡ round n }
 {
@@ -71,12 +72,14 @@ pub fn emptied(q: Fifo) -> Fifo
     }
 }
 
+#[tactic(auto, unfolding(chip::specs::Fifo::waits))]
 pub fn waits(q: Fifo) -> u8
     ensures { result ≡ waits q }
 {
     q.held
 }
 
+#[tactic(auto, unfolding(chip::specs::Fifo::is_empty))]
 pub fn is_empty(q: Fifo) -> bool
     ensures { result ≡ is_empty q }
 {
@@ -93,6 +96,7 @@ pub fn has_byte(q: Fifo) -> bool
     true
 }
 
+#[tactic(auto, unfolding(chip::specs::Fifo::has_room))]
 pub fn has_room(q: Fifo) -> bool
     ensures { result ≡ has_room q }
 {
@@ -100,6 +104,7 @@ pub fn has_room(q: Fifo) -> bool
 }
 
 // Of a FIFO whose oldest byte has none of the twelve places, 0: no image says one.
+#[tactic(auto, unfolding(chip::specs::Fifo::front, chip::specs::Fifo::is_empty, chip::specs::Choice::pick))]
 pub fn front(q: Fifo) -> u8
     ensures { result ≡ front q }
 {
@@ -113,6 +118,7 @@ pub fn front(q: Fifo) -> u8
     0
 }
 
+#[tactic(auto, unfolding(chip::specs::Fifo::pop, chip::specs::Choice::pick, chip::specs::Fifo::is_empty))]
 pub fn pop(q: Fifo) -> Fifo
     ensures { result ≡ pop q }
 {
@@ -129,6 +135,7 @@ pub fn pop(q: Fifo) -> Fifo
     }
 }
 
+#[tactic(auto, unfolding(chip::specs::Fifo::push, chip::specs::Fifo::has_room, chip::specs::Fifo::place_behind, chip::specs::Choice::pick))]
 pub fn push(b: u8, q: Fifo) -> Fifo
     ensures { result ≡ push b q }
 {

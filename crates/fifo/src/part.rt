@@ -9,6 +9,7 @@ use chip::Fifo;
 
 pub(crate) const LENGTH: usize = 14;
 
+#[tactic(auto, unfolding(chip::specs::Choice::both, crate::specs::Part::is_part, chip::specs::Fifo::is_fifo))]
 pub fn is_fifo(part: &[u8]) -> bool
     ensures { result ≡ is_part part.now }
 {
@@ -18,12 +19,13 @@ pub fn is_fifo(part: &[u8]) -> bool
     false
 }
 
+#[tactic(auto, unfolding(chip::specs::Fifo::fifo_of, chip::specs::Choice::pick))]
 pub fn get(part: &[u8]) -> Fifo
     ensures { result ≡ pick (eqb (length part.now) fifo_length) (fifo_of part.now) empty }
 {
     if part.len() == LENGTH {
         let mut places = [0u8; 12];
-        bytes::copy(&part[2..LENGTH], &mut places);
+        places.copy_from_slice(&part[2..LENGTH]);
         return Fifo {
             bytes: places,
             first: part[1],
@@ -34,6 +36,7 @@ pub fn get(part: &[u8]) -> Fifo
 }
 
 // Where the oldest byte stands, and how many wait.
+#[tactic(auto, unfolding(chip::specs::Choice::pick))]
 pub(crate) fn set_ends(first: u8, held: u8, part: &mut [u8])
     ensures { part.new ≡ pick (eqb (length part.old) fifo_length) (set (set part.old 0 held) 1 first) part.old }
 {
@@ -43,17 +46,19 @@ pub(crate) fn set_ends(first: u8, held: u8, part: &mut [u8])
     }
 }
 
+#[tactic(auto, unfolding(chip::specs::Fifo::fifo_bytes, chip::specs::Choice::pick))]
 pub fn put(q: Fifo, part: &mut [u8])
     ensures { part.new ≡ pick (eqb (length part.old) fifo_length) (fifo_bytes q) part.old }
 {
     if part.len() == LENGTH {
         let places = q.bytes;
-        bytes::copy(&places, &mut part[2..LENGTH]);
+        part[2..LENGTH].copy_from_slice(&places);
         set_ends(q.first, q.held, part);
     }
 }
 
 // The ends, and the place behind those that waited: all that differs after a step that brings one byte at most (chip's Goes).
+#[tactic(auto, unfolding(chip::specs::Choice::pick))]
 pub fn put_ends(q: Fifo, part: &mut [u8])
     ensures { part.new ≡ pick (eqb (length part.old) fifo_length) (ends_over q part.old) part.old }
 {
@@ -66,6 +71,7 @@ pub fn put_ends(q: Fifo, part: &mut [u8])
 }
 
 // The oldest byte.
+#[tactic(auto, unfolding(chip::specs::Choice::pick))]
 pub fn front(part: &[u8]) -> u8
     ensures { result ≡ pick (eqb (length part.now) fifo_length) (front (fifo_of part.now)) 0 }
 {
@@ -84,6 +90,7 @@ pub fn front(part: &[u8]) -> u8
 }
 
 // The oldest byte goes.
+#[tactic(auto, unfolding(chip::specs::Choice::pick))]
 pub fn pop(part: &mut [u8])
     ensures { part.new ≡ pick (eqb (length part.old) fifo_length) (fifo_bytes (pop (fifo_of part.old))) part.old }
 {
@@ -97,6 +104,7 @@ pub fn pop(part: &mut [u8])
 }
 
 // One byte more waits, where there is room.
+#[tactic(auto, unfolding(chip::specs::Choice::pick))]
 pub fn push(b: u8, part: &mut [u8])
     ensures { part.new ≡ pick (eqb (length part.old) fifo_length) (fifo_bytes (push b (fifo_of part.old))) part.old }
 {

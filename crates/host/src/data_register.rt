@@ -5,6 +5,7 @@ ghost use Rattle.chip.specs.Registers.{data_read, data_read_by, data_written, da
 use chip::{Direction, Reply, State};
 use state::{get, set};
 
+#[tactic(auto, unfolding(chip::specs::Choice::pick))]
 fn read_incoming(s: State) -> Reply
     ensures { result ≡ data_read_by Direction.In s }
 {
@@ -28,12 +29,14 @@ fn data_read_by(d: Direction, s: State) -> Reply
     }
 }
 
+#[tactic(auto, unfolding(chip::specs::Registers::data_read))]
 pub fn data_read(s: State) -> Reply
     ensures { result ≡ data_read s }
 {
     data_read_by(get::direction(s), s)
 }
 
+#[tactic(auto, unfolding(chip::specs::Choice::pick))]
 fn write_outgoing(b: u8, s: State) -> Reply
     ensures { result ≡ data_written_by Direction.Out b s }
 {
@@ -54,6 +57,7 @@ fn data_written_by(d: Direction, b: u8, s: State) -> Reply
     }
 }
 
+#[tactic(auto, unfolding(chip::specs::Registers::data_written))]
 pub fn data_written(b: u8, s: State) -> Reply
     ensures { result ≡ data_written b s }
 {

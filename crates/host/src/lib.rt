@@ -12,6 +12,7 @@ ghost use Rattle.chip.specs.Registers.{accessed, accessed_at, auxiliary_read, is
 use chip::{Answer, Reply, State};
 use state::{activity, get, set};
 
+#[tactic(auto, unfolding(chip::specs::Registers::auxiliary_read))]
 pub fn auxiliary_read(s: State) -> Reply
     ensures { result ≡ auxiliary_read s }
 {
@@ -22,6 +23,7 @@ pub fn auxiliary_read(s: State) -> Reply
 }
 
 // 18h, 19h and 1Fh keep the pointer (001, Address register).
+#[tactic(auto, unfolding(chip::specs::Registers::pointer_after, chip::specs::Choice::pick, chip::specs::Choice::either))]
 fn pointer_after(a: u8) -> u8
     ensures { result ≡ pointer_after a }
 {
@@ -38,6 +40,7 @@ fn pointer_after(a: u8) -> u8
 }
 
 // Reachable while BSY is set.
+#[tactic(auto, unfolding(chip::specs::Choice::either))]
 fn is_always_reachable(a: u8) -> bool
     ensures { result ≡ either (a == 0x18) (a == 0x19) }
 {
@@ -47,6 +50,7 @@ fn is_always_reachable(a: u8) -> bool
     a == 0x19
 }
 
+#[tactic(auto, unfolding(chip::specs::Choice::both, chip::specs::Interrupts::busy, chip::specs::Choice::either))]
 fn is_shut_by_busy(a: u8, s: State) -> bool
     ensures { result ≡ both (busy s) (not (either (a == 0x18) (a == 0x19))) }
 {
@@ -59,6 +63,7 @@ fn is_shut_by_busy(a: u8, s: State) -> bool
     false
 }
 
+#[tactic(auto, unfolding(chip::specs::Choice::both))]
 fn is_read_only(writes: bool, a: u8) -> bool
     ensures { result ≡ both writes (a == 0x17) }
 {
@@ -68,6 +73,7 @@ fn is_read_only(writes: bool, a: u8) -> bool
     false
 }
 
+#[tactic(auto, unfolding(chip::specs::Registers::is_blind, chip::specs::Choice::either, chip::specs::Choice::both))]
 fn is_blind(writes: bool, a: u8, s: State) -> bool
     ensures { result ≡ is_blind writes a s }
 {
@@ -80,6 +86,7 @@ fn is_blind(writes: bool, a: u8, s: State) -> bool
     is_shut_by_busy(a, s)
 }
 
+#[tactic(auto, unfolding(chip::specs::Registers::read_at, chip::specs::Choice::pick))]
 fn read_at(a: u8, s: State) -> Reply
     ensures { result ≡ read_at a s }
 {
@@ -97,6 +104,7 @@ fn read_at(a: u8, s: State) -> Reply
     answers::done(register::register_at(a, registers), s)
 }
 
+#[tactic(auto, unfolding(chip::specs::Registers::written_at, chip::specs::Choice::pick))]
 fn written_at(a: u8, b: u8, s: State) -> Reply
     ensures { result ≡ written_at a b s }
 {
@@ -109,6 +117,7 @@ fn written_at(a: u8, b: u8, s: State) -> Reply
     answers::done(0, register::stored(a, b, s))
 }
 
+#[tactic(auto, unfolding(chip::specs::Registers::stepped))]
 fn stepped(a: u8, r: Reply) -> Reply
     ensures { result ≡ stepped a r }
 {
@@ -117,6 +126,7 @@ fn stepped(a: u8, r: Reply) -> Reply
     answers::says(answer, set::pointer(s, pointer_after(a)))
 }
 
+#[tactic(auto, unfolding(chip::specs::Registers::accessed_at, chip::specs::Choice::pick))]
 fn accessed_at(a: u8, writes: bool, b: u8, s: State) -> Reply
     ensures { result ≡ accessed_at a writes b s }
 {
@@ -129,6 +139,7 @@ fn accessed_at(a: u8, writes: bool, b: u8, s: State) -> Reply
     read_at(a, s)
 }
 
+#[tactic(auto, unfolding(chip::specs::Registers::accessed))]
 pub fn accessed(writes: bool, b: u8, s: State) -> Reply
     ensures { result ≡ accessed writes b s }
 {

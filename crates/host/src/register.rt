@@ -5,6 +5,7 @@ ghost use Rattle.chip.specs.Registers.{high_written, low_written, middle_written
 use chip::{Registers, State};
 use state::set;
 
+#[tactic(auto, unfolding(chip::specs::Registers::register_at, chip::specs::Choice::pick))]
 pub fn register_at(a: u8, r: Registers) -> u8
     ensures { result ≡ register_at a r }
 {
@@ -47,18 +48,21 @@ pub fn register_at(a: u8, r: Registers) -> u8
     r.source
 }
 
+#[tactic(auto, unfolding(chip::specs::Registers::high_written))]
 fn high_written(b: u8, n: u32) -> u32
     ensures { result ≡ high_written b n }
 {
     (b as u32) * 65536 + n % 65536
 }
 
+#[tactic(auto, unfolding(chip::specs::Registers::middle_written))]
 fn middle_written(b: u8, n: u32) -> u32
     ensures { result ≡ middle_written b n }
 {
     n / 65536 * 65536 + (b as u32) * 256 + n % 256
 }
 
+#[tactic(auto, unfolding(chip::specs::Registers::low_written))]
 fn low_written(b: u8, n: u32) -> u32
     ensures { result ≡ low_written b n }
 {
@@ -66,6 +70,7 @@ fn low_written(b: u8, n: u32) -> u32
 }
 
 // The registers with the one at a written.
+#[tactic(auto, unfolding(chip::specs::Registers::stored_in, chip::specs::Choice::pick))]
 fn stored_in(a: u8, b: u8, r: Registers) -> Registers
     ensures { result ≡ stored_in a b r }
 {
@@ -121,6 +126,7 @@ fn stored_in(a: u8, b: u8, r: Registers) -> Registers
     t
 }
 
+#[tactic(auto, unfolding(chip::specs::Registers::stored))]
 pub fn stored(a: u8, b: u8, s: State) -> State
     ensures { result ≡ stored a b s }
 {

@@ -21,6 +21,7 @@ pub(crate) fn direction_byte(d: Direction) -> u8
     }
 }
 
+#[tactic(auto, unfolding(chip::specs::Image::direction_of, chip::specs::Choice::pick))]
 pub(crate) fn direction_of(n: u8) -> Direction
     ensures { result ≡ direction_of n }
 {
@@ -42,6 +43,7 @@ pub(crate) fn noted_byte(p: Noted) -> u8
     }
 }
 
+#[tactic(auto, unfolding(chip::specs::Image::noted_of, chip::specs::Choice::pick))]
 pub(crate) fn noted_of(n: u8) -> Noted
     ensures { result ≡ noted_of n }
 {

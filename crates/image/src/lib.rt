@@ -35,6 +35,7 @@ pub const LENGTH: usize = 54;
 const FIFO: usize = 40;
 
 // What is pending goes with the command that runs. Mostly nothing is, so that is asked first.
+#[tactic(auto, unfolding(chip::specs::Activity::go_with, chip::specs::Choice::pick, chip::specs::Choice::both, chip::specs::Choice::either))]
 fn go_with(p: u8, k: u8, n: u8) -> bool
     ensures { result ≡ go_with p k n }
 {
@@ -48,12 +49,14 @@ fn go_with(p: u8, k: u8, n: u8) -> bool
 }
 
 // The three bytes that say the activity.
+#[tactic(auto, unfolding(chip::specs::Activity::is_activity, chip::specs::Choice::pick, chip::specs::Choice::both, chip::specs::Choice::either))]
 fn is_activity(p: u8, k: u8, n: u8) -> bool
     ensures { result ≡ is_activity p k n }
 {
     (n < activity::COMMANDS) & go_with(p, k, n)
 }
 
+#[tactic(auto, unfolding(chip::specs::Choice::both, chip::specs::Image::is_image))]
 fn has_form(image: &[u8]) -> bool
     ensures { result ≡ is_image image.now }
 {
@@ -79,6 +82,7 @@ fn has_form(image: &[u8]) -> bool
 }
 
 // Whether the bytes are a state's image; what then holds of them is specs/IsImage.antt.
+#[tactic(auto, unfolding(chip::specs::Image::is_image, chip::specs::Choice::both))]
 pub fn is_image(image: &[u8]) -> bool
     ensures { (result ≡ is_image image.now) × (result ≡ true → IsImage image.now) }
 {
@@ -88,6 +92,7 @@ pub fn is_image(image: &[u8]) -> bool
     false
 }
 
+#[tactic(auto, unfolding(crate::specs::Read::read_of, chip::specs::Choice::pick))]
 pub fn read(image: &[u8]) -> Reading
     ensures { result ≡ read_of image.now }
 {
@@ -100,6 +105,7 @@ pub fn read(image: &[u8]) -> Reading
 }
 
 // The state that bytes say; the fresh one where their length is not an image's. Whether they are an image is not asked.
+#[tactic(auto, unfolding(chip::specs::Choice::pick, chip::specs::Image::state_of))]
 pub fn state(image: &[u8]) -> State
     ensures { result ≡ pick (eqb (length image.now) image_length) (state_of image.now) fresh }
 {
@@ -110,6 +116,7 @@ pub fn state(image: &[u8]) -> State
 }
 
 // Bytes of another length than an image's stay as they are.
+#[tactic(auto, unfolding(chip::specs::Choice::pick, chip::specs::Image::image_of))]
 pub fn write(s: State, image: &mut [u8])
     ensures { image.new ≡ pick (eqb (length image.old) image_length) (image_of s) image.old }
 {
@@ -119,6 +126,7 @@ pub fn write(s: State, image: &mut [u8])
 }
 
 // The state that a step led to from the image's own, where it brought the FIFO one byte at most: of its places one is stored.
+#[tactic(auto, unfolding(chip::specs::Choice::pick))]
 pub fn write_on(s: State, image: &mut [u8])
     ensures image_after { image.new ≡ pick (eqb (length image.old) image_length)
         (take fifo_place (image_of s) ++ ends_over s.fifo (drop fifo_place image.old)) image.old }

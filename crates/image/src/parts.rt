@@ -32,6 +32,7 @@ fn high_byte(x: u32) -> u8
     lines::low_byte(x >> 16)
 }
 
+#[tactic(auto, unfolding(chip::specs::Image::state_of))]
 fn registers_of(image: &[u8]) -> Registers
     requires { length image.now ≡ image_length }
     ensures { result ≡ (state_of image.now).registers }
@@ -57,6 +58,7 @@ fn registers_of(image: &[u8]) -> Registers
     }
 }
 
+#[tactic(auto, unfolding(chip::specs::Image::state_of))]
 fn status_of(image: &[u8]) -> Status
     requires { length image.now ≡ image_length }
     ensures { result ≡ (state_of image.now).status }
@@ -77,6 +79,7 @@ fn fifo_of(image: &[u8]) -> Fifo
     part::get(&image[FIFO..LENGTH])
 }
 
+#[tactic(auto, unfolding(chip::specs::Image::state_of))]
 fn transfer_of(image: &[u8]) -> Transfer
     requires { length image.now ≡ image_length }
     ensures { result ≡ (state_of image.now).transfer }
@@ -88,6 +91,7 @@ fn transfer_of(image: &[u8]) -> Transfer
     }
 }
 
+#[tactic(auto, unfolding(chip::specs::Image::state_of))]
 fn wire_of(image: &[u8]) -> Wire
     requires { length image.now ≡ image_length }
     ensures { result ≡ (state_of image.now).wire }
@@ -107,6 +111,7 @@ fn wire_of(image: &[u8]) -> Wire
     }
 }
 
+#[tactic(auto, unfolding(chip::specs::Image::state_of))]
 fn activity_of(image: &[u8]) -> Activity
     requires { length image.now ≡ image_length }
     ensures { result ≡ (state_of image.now).activity }
@@ -115,6 +120,7 @@ fn activity_of(image: &[u8]) -> Activity
 }
 
 // The state whose image the bytes are; of bytes that are no image, some state or other.
+#[tactic(auto, unfolding(chip::specs::Image::state_of))]
 pub(crate) fn state_of(image: &[u8]) -> State
     requires { length image.now ≡ image_length }
     ensures { result ≡ state_of image.now }
@@ -136,6 +142,7 @@ pub(crate) fn state_of(image: &[u8]) -> State
 }
 
 // Bytes 0 to 2 of the image of s.
+#[tactic(auto, unfolding(chip::specs::Image::head_bytes))]
 fn put_head(s: State, image: &mut [u8])
     requires { length image.old ≡ image_length }
     ensures { image.new ≡ sets image.old 0 (head_bytes s) }
@@ -146,6 +153,7 @@ fn put_head(s: State, image: &mut [u8])
 }
 
 // Bytes 15 to 22: the registers after the command bytes.
+#[tactic(auto, unfolding(chip::specs::Image::middle_bytes))]
 fn put_registers(s: State, image: &mut [u8])
     requires { length image.old ≡ image_length }
     ensures { image.new ≡ sets image.old 15 (take 8 (middle_bytes s)) }
@@ -162,6 +170,7 @@ fn put_registers(s: State, image: &mut [u8])
 }
 
 // Bytes 23 to 29: what the host sees beside them.
+#[tactic(auto, unfolding(chip::specs::Image::middle_bytes))]
 fn put_status(s: State, image: &mut [u8])
     requires { length image.old ≡ image_length }
     ensures { image.new ≡ sets image.old 23 (take 7 (drop 8 (middle_bytes s))) }
@@ -178,6 +187,7 @@ fn put_status(s: State, image: &mut [u8])
 }
 
 // Bytes 30 to 39: the bus and the running command.
+#[tactic(auto, unfolding(chip::specs::Image::middle_bytes))]
 fn put_rest(s: State, image: &mut [u8])
     requires { length image.old ≡ image_length }
     ensures { image.new ≡ sets image.old 30 (drop 15 (middle_bytes s)) }
@@ -203,6 +213,7 @@ fn put_rest(s: State, image: &mut [u8])
 }
 
 // Bytes 15 to 39.
+#[tactic(auto, unfolding(chip::specs::Image::middle_bytes))]
 fn put_middle(s: State, image: &mut [u8])
     requires { length image.old ≡ image_length }
     ensures { image.new ≡ sets image.old 15 (middle_bytes s) }

@@ -10,6 +10,7 @@ use crate::{FIFO, LENGTH};
 use chip::Fifo;
 use fifo::part;
 
+#[tactic(auto, unfolding(chip::specs::Choice::pick))]
 pub fn pointer(b: u8, image: &mut [u8])
     ensures { image.new ≡ pick (eqb (length image.old) image_length) (set image.old 25 b) image.old }
 {
@@ -19,6 +20,7 @@ pub fn pointer(b: u8, image: &mut [u8])
 }
 
 // A register of 00 to 16h stands at its address.
+#[tactic(auto, unfolding(chip::specs::Choice::pick, chip::specs::Choice::both))]
 pub fn register(a: u8, b: u8, image: &mut [u8])
     ensures { image.new ≡ pick (both (eqb (length image.old) image_length) (ltb a 0x17)) (set image.old a b) image.old }
 {
@@ -31,6 +33,7 @@ pub fn register(a: u8, b: u8, image: &mut [u8])
 }
 
 // The low byte of the count.
+#[tactic(auto, unfolding(chip::specs::Choice::pick))]
 pub fn count_low(b: u8, image: &mut [u8])
     ensures { image.new ≡ pick (eqb (length image.old) image_length) (set image.old 20 b) image.old }
 {
@@ -40,6 +43,7 @@ pub fn count_low(b: u8, image: &mut [u8])
 }
 
 // The phase of the last Request answered, as its byte.
+#[tactic(auto, unfolding(chip::specs::Choice::pick))]
 pub fn last(b: u8, image: &mut [u8])
     ensures { image.new ≡ pick (eqb (length image.old) image_length) (set image.old 37 b) image.old }
 {
@@ -49,6 +53,7 @@ pub fn last(b: u8, image: &mut [u8])
 }
 
 // The whole FIFO.
+#[tactic(auto, unfolding(chip::specs::Choice::pick, chip::specs::Fifo::fifo_bytes))]
 pub fn fifo(q: Fifo, image: &mut [u8])
     ensures { image.new ≡ pick (eqb (length image.old) image_length)
         (take fifo_place image.old ++ fifo_bytes q) image.old }
@@ -59,6 +64,7 @@ pub fn fifo(q: Fifo, image: &mut [u8])
 }
 
 // The ends of the FIFO, and the place behind those that waited.
+#[tactic(auto, unfolding(chip::specs::Image::state_of, chip::specs::Choice::pick))]
 pub fn ends(q: Fifo, image: &mut [u8])
     ensures { image.new ≡ pick (eqb (length image.old) image_length)
         (take fifo_place image.old ++ ends_over q (drop fifo_place image.old)) image.old }

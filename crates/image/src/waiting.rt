@@ -10,6 +10,7 @@ use crate::{FIFO, LENGTH};
 use fifo::{bulk, part};
 
 // The oldest byte.
+#[tactic(auto, unfolding(chip::specs::Choice::pick))]
 pub fn front(image: &[u8]) -> u8
     ensures { result ≡ pick (eqb (length image.now) image_length) (front (state_of image.now).fifo) 0 }
 {
@@ -20,6 +21,7 @@ pub fn front(image: &[u8]) -> u8
 }
 
 // The oldest byte goes.
+#[tactic(auto, unfolding(chip::specs::Image::state_of, chip::specs::Choice::pick))]
 pub fn pop(image: &mut [u8])
     ensures { image.new ≡ pick (eqb (length image.old) image_length)
         (take fifo_place image.old ++ fifo_bytes (pop (state_of image.old).fifo)) image.old }
@@ -30,6 +32,7 @@ pub fn pop(image: &mut [u8])
 }
 
 // One byte more waits, where there is room.
+#[tactic(auto, unfolding(chip::specs::Image::state_of, chip::specs::Choice::pick))]
 pub fn push(b: u8, image: &mut [u8])
     ensures { image.new ≡ pick (eqb (length image.old) image_length)
         (take fifo_place image.old ++ fifo_bytes (push b (state_of image.old).fifo)) image.old }
@@ -40,6 +43,7 @@ pub fn push(b: u8, image: &mut [u8])
 }
 
 // Many bytes, into a slice: how many.
+#[tactic(auto, unfolding(crate::specs::Waiting::image_moved, crate::specs::Waiting::holds_fifo, chip::specs::Choice::both, chip::specs::Choice::pick))]
 pub fn drain(image: &mut [u8], out: &mut [u8]) -> u8
     ensures { (result ≡ (image_drained out.old image.old).moved)
         × (image.new ≡ (image_drained out.old image.old).image)
@@ -52,6 +56,7 @@ pub fn drain(image: &mut [u8], out: &mut [u8]) -> u8
 }
 
 // Many bytes, from a slice, as long as fewer than n wait: how many.
+#[tactic(auto, unfolding(crate::specs::Waiting::image_moved, crate::specs::Waiting::holds_fifo, chip::specs::Choice::both, chip::specs::Choice::pick))]
 pub fn fill(n: u32, image: &mut [u8], from: &[u8]) -> u8
     ensures { (result ≡ (image_filled n from.now image.old).moved)
         × (image.new ≡ (image_filled n from.now image.old).image) }

@@ -19,6 +19,7 @@ pub fn in_ending(s: State) -> bool
     activity::is_ending(s)
 }
 
+#[tactic(auto, unfolding(chip::specs::Interrupts::busy, chip::specs::Choice::either))]
 pub fn busy(s: State) -> bool
     ensures { result ≡ busy s }
 {
@@ -51,6 +52,7 @@ fn closed(d: Direction) -> Direction
     }
 }
 
+#[tactic(auto, unfolding(chip::specs::Interrupts::outgoing_dropped))]
 pub fn outgoing_dropped(s: State) -> State
     ensures { result ≡ outgoing_dropped s }
 {
@@ -62,6 +64,7 @@ pub fn outgoing_dropped(s: State) -> State
     )
 }
 
+#[tactic(auto, unfolding(chip::specs::Interrupts::raise))]
 pub fn raise(k: u8, s: State) -> State
     ensures { result ≡ raise k s }
 {
@@ -104,6 +107,7 @@ pub fn outgoing(s: State) -> bool
     is_outgoing(direction)
 }
 
+#[tactic(auto, unfolding(chip::specs::Interrupts::bytes_unread, chip::specs::Choice::both))]
 pub fn bytes_unread(s: State) -> bool
     ensures { result ≡ bytes_unread s }
 {
@@ -114,6 +118,7 @@ pub fn bytes_unread(s: State) -> bool
     false
 }
 
+#[tactic(auto, unfolding(chip::specs::Interrupts::ending_with, chip::specs::Choice::pick))]
 pub fn ending_with(k: u8, s: State) -> State
     ensures { result ≡ ending_with k s }
 {
@@ -123,6 +128,7 @@ pub fn ending_with(k: u8, s: State) -> State
     raise(k, s)
 }
 
+#[tactic(auto, unfolding(chip::specs::Interrupts::settled_by))]
 fn settled_by(a: Activity, s: State) -> State
     ensures { result ≡ settled_by a s }
 {
@@ -138,6 +144,7 @@ fn settled_by(a: Activity, s: State) -> State
     }
 }
 
+#[tactic(auto, unfolding(chip::specs::Interrupts::settled, chip::specs::Choice::pick))]
 pub fn settled(s: State) -> State
     ensures { result ≡ settled s }
 {

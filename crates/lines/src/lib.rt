@@ -29,6 +29,7 @@ ghost use Rattle.chip.specs.Lines.{
 
 use chip::{Identity, Lun, State};
 
+#[tactic(auto, unfolding(chip::specs::Lines::is_on))]
 fn is_on(k: u8, b: u8) -> bool
     requires { k < 8 }
     ensures { result ≡ is_on k b }
@@ -43,54 +44,63 @@ pub fn low_byte(n: u32) -> u8
     (n & 0xff) as u8
 }
 
+#[tactic(auto, unfolding(chip::specs::Lines::packed))]
 pub fn packed(int: bool, lci: bool, bsy: bool, pe: bool, dbr: bool) -> u8
     ensures { result ≡ packed int lci bsy pe dbr }
 {
     (int as u8) << 7 | (lci as u8) << 6 | (bsy as u8) << 5 | (pe as u8) << 1 | (dbr as u8)
 }
 
+#[tactic(auto, unfolding(chip::specs::Lines::hsp))]
 pub fn hsp(s: State) -> bool
     ensures { result ≡ hsp s }
 {
     is_on(0, s.registers.setup.control)
 }
 
+#[tactic(auto, unfolding(chip::specs::Lines::idi))]
 pub fn idi(s: State) -> bool
     ensures { result ≡ idi s }
 {
     is_on(2, s.registers.setup.control)
 }
 
+#[tactic(auto, unfolding(chip::specs::Lines::with_idi, chip::specs::Lines::is_on, chip::specs::Choice::pick))]
 pub fn with_idi(b: u8) -> u8
     ensures { result ≡ with_idi b }
 {
     b | 4
 }
 
+#[tactic(auto, unfolding(chip::specs::Lines::er))]
 pub fn er(s: State) -> bool
     ensures { result ≡ er s }
 {
     is_on(7, s.registers.source)
 }
 
+#[tactic(auto, unfolding(chip::specs::Lines::is_single))]
 pub fn is_single(b: u8) -> bool
     ensures { result ≡ is_single b }
 {
     is_on(7, b)
 }
 
+#[tactic(auto, unfolding(chip::specs::Lines::code_of))]
 pub fn code_of(b: u8) -> u8
     ensures { result ≡ code_of b }
 {
     b & 0x7f
 }
 
+#[tactic(auto, unfolding(chip::specs::Lines::own_identity))]
 pub fn own_identity(b: u8) -> Identity
     ensures { result ≡ own_identity b }
 {
     Identity { number: b & 7 }
 }
 
+#[tactic(auto, unfolding(chip::specs::Lines::destination))]
 pub fn destination(s: State) -> Identity
     ensures { result ≡ destination s }
 {
@@ -99,12 +109,14 @@ pub fn destination(s: State) -> Identity
     }
 }
 
+#[tactic(auto, unfolding(chip::specs::Lines::same_identity))]
 pub fn same_identity(i: Identity, j: Identity) -> bool
     ensures { result ≡ same_identity i j }
 {
     i.number == j.number
 }
 
+#[tactic(auto, unfolding(chip::specs::Lines::lun_of))]
 pub fn lun_of(s: State) -> Lun
     ensures { result ≡ lun_of s }
 {
@@ -113,24 +125,28 @@ pub fn lun_of(s: State) -> Lun
     }
 }
 
+#[tactic(auto, unfolding(chip::specs::Lines::identify))]
 pub fn identify(l: Lun, reselects: bool) -> u8
     ensures { result ≡ identify l reselects }
 {
     0x80 | (reselects as u8) << 6 | l.number & 7
 }
 
+#[tactic(auto, unfolding(chip::specs::Lines::line_of))]
 pub fn line_of(i: Identity) -> u8
     ensures { result ≡ line_of i }
 {
     i.number & 7
 }
 
+#[tactic(auto, unfolding(chip::specs::Lines::ones))]
 fn ones(lines: u8) -> u32
     ensures { result ≡ ones lines }
 {
     u32::count_ones(lines as u32)
 }
 
+#[tactic(auto, unfolding(chip::specs::Lines::qualifies, chip::specs::Choice::both, chip::specs::Choice::either))]
 pub fn qualifies(lines: u8, s: State) -> bool
     ensures { result ≡ qualifies lines s }
 {
@@ -138,6 +154,7 @@ pub fn qualifies(lines: u8, s: State) -> bool
     er(s) & (is_on(line_of(s.wire.identity), lines) & ((n == 1) | (n == 2)))
 }
 
+#[tactic(auto, unfolding(chip::specs::Lines::are_two))]
 pub fn are_two(lines: u8) -> bool
     ensures { result ≡ are_two lines }
 {
@@ -145,12 +162,14 @@ pub fn are_two(lines: u8) -> bool
 }
 
 // The mask makes the 32 zeros of no line 0.
+#[tactic(auto, unfolding(chip::specs::Lines::lowest, chip::specs::Lines::is_on, chip::specs::Choice::pick))]
 fn lowest(lines: u8) -> u8
     ensures { result ≡ lowest lines }
 {
     (u32::trailing_zeros(lines as u32) & 7) as u8
 }
 
+#[tactic(auto, unfolding(chip::specs::Lines::without, chip::specs::Lines::is_on, chip::specs::Choice::pick))]
 fn without(k: u8, lines: u8) -> u8
     requires { k < 8 }
     ensures { result ≡ without k lines }
@@ -158,6 +177,7 @@ fn without(k: u8, lines: u8) -> u8
     lines & !(1u8 << k)
 }
 
+#[tactic(auto, unfolding(chip::specs::Lines::other_identity))]
 pub fn other_identity(own: Identity, lines: u8) -> Identity
     ensures { result ≡ other_identity own lines }
 {
@@ -166,6 +186,7 @@ pub fn other_identity(own: Identity, lines: u8) -> Identity
     }
 }
 
+#[tactic(auto, unfolding(chip::specs::Lines::source_after, chip::specs::Choice::pick))]
 pub fn source_after(lines: u8, s: State) -> u8
     ensures { result ≡ source_after lines s }
 {

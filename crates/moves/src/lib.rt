@@ -17,6 +17,7 @@ use select_and_transfer::stage;
 use state::{activity, get};
 
 // The next register access is one of 00 to 16h, in reach.
+#[tactic(auto, unfolding(chip::specs::Moves::is_plain, chip::specs::Choice::both))]
 pub fn is_plain(s: State) -> bool
     ensures { result ≡ is_plain s }
 {
@@ -37,6 +38,7 @@ pub fn is_at_data(s: State) -> bool
 }
 
 // A read of the Data register takes a byte.
+#[tactic(auto, unfolding(chip::specs::Moves::reads_data, chip::specs::Choice::both))]
 pub fn reads_data(s: State) -> bool
     ensures { result ≡ reads_data s }
 {
@@ -57,6 +59,7 @@ fn writes_by(d: Direction, s: State) -> bool
 }
 
 // A write to the Data register is taken.
+#[tactic(auto, unfolding(chip::specs::Moves::writes_data, chip::specs::Choice::both))]
 pub fn writes_data(s: State) -> bool
     ensures { result ≡ writes_data s }
 {
@@ -73,6 +76,7 @@ fn goes_on(s: State) -> bool
     2 <= s.registers.count % 256
 }
 
+#[tactic(auto, unfolding(chip::specs::Moves::is_under_way, chip::specs::Choice::both, chip::specs::Choice::pick))]
 fn is_under_way(s: State) -> bool
     ensures { result ≡ is_under_way s }
 {
@@ -106,6 +110,7 @@ fn expects_data(s: State) -> bool
     is_body(stage::stage(s))
 }
 
+#[tactic(auto, unfolding(chip::specs::Choice::both, chip::specs::SelectAndTransfer::stage))]
 fn expects_in(s: State) -> bool
     ensures { result ≡ both (is_incoming s.transfer.direction) (is_body (stage s)) }
 {
@@ -115,6 +120,7 @@ fn expects_in(s: State) -> bool
     false
 }
 
+#[tactic(auto, unfolding(chip::specs::Choice::both, chip::specs::SelectAndTransfer::stage))]
 fn expects_out(s: State) -> bool
     ensures { result ≡ both (is_outgoing s.transfer.direction) (is_body (stage s)) }
 {
@@ -125,6 +131,7 @@ fn expects_out(s: State) -> bool
 }
 
 // Transfer Info runs in the phase p.
+#[tactic(auto, unfolding(chip::specs::Choice::both))]
 fn transfer_info_in(p: Phase, s: State) -> bool
     ensures { result ≡ both (is_transfer_info s.activity) (is_noted p s.wire.seen.reported) }
 {
@@ -134,6 +141,7 @@ fn transfer_info_in(p: Phase, s: State) -> bool
     false
 }
 
+#[tactic(auto, unfolding(chip::specs::Moves::carries_in, chip::specs::Choice::pick))]
 fn carries_in(s: State) -> bool
     ensures { result ≡ carries_in s }
 {
@@ -143,6 +151,7 @@ fn carries_in(s: State) -> bool
     transfer_info_in(Phase::DataIn, s)
 }
 
+#[tactic(auto, unfolding(chip::specs::Moves::carries_out, chip::specs::Choice::pick))]
 fn carries_out(s: State) -> bool
     ensures { result ≡ carries_out s }
 {
@@ -167,6 +176,7 @@ pub fn has_byte(s: State) -> bool
 }
 
 // A Request of Data In with good parity is taken into the FIFO, or Held where that is full, and nothing ends.
+#[tactic(auto, unfolding(chip::specs::Moves::takes_data, chip::specs::Choice::both))]
 pub fn takes_data(s: State) -> bool
     ensures { result ≡ takes_data s }
 {
@@ -177,6 +187,7 @@ pub fn takes_data(s: State) -> bool
 }
 
 // A Request of Data Out takes a byte from the FIFO, or is Held where that is empty, and nothing ends.
+#[tactic(auto, unfolding(chip::specs::Moves::sends_data, chip::specs::Choice::both))]
 pub fn sends_data(s: State) -> bool
     ensures { result ≡ sends_data s }
 {

@@ -61,6 +61,7 @@ pub fn is_message_in(p: Phase) -> bool
 }
 
 // The phase of a number from 0 to 7.
+#[tactic(auto, unfolding(chip::specs::Phases::phase_of, chip::specs::Choice::pick))]
 pub fn phase_of(p: u8) -> Phase
     ensures { result ≡ phase_of p }
 {

@@ -5,6 +5,7 @@ ghost use Rattle.chip.specs.SelectAndTransfer.{free_after_disconnect, free_to_wa
 use chip::{Connection, Reply, State};
 use state::{activity, get, set};
 
+#[tactic(auto, unfolding(chip::specs::SelectAndTransfer::free_to_wait, chip::specs::Choice::pick, chip::specs::Interrupts::unless_interrupt))]
 fn free_to_wait(s: State, t: State) -> Reply
     ensures { result ≡ free_to_wait s t }
 {
@@ -15,6 +16,7 @@ fn free_to_wait(s: State, t: State) -> Reply
     answers::done(0, set::connection(t, Connection::Waiting))
 }
 
+#[tactic(auto, unfolding(chip::specs::SelectAndTransfer::free_after_disconnect, chip::specs::Choice::pick, chip::specs::Interrupts::unless_interrupt))]
 fn free_after_disconnect(s: State, t: State) -> Reply
     ensures { result ≡ free_after_disconnect s t }
 {
@@ -24,6 +26,7 @@ fn free_after_disconnect(s: State, t: State) -> Reply
     free_to_wait(s, t)
 }
 
+#[tactic(auto, unfolding(chip::specs::SelectAndTransfer::select_and_transfer_free, chip::specs::Choice::pick, chip::specs::Interrupts::unless_interrupt))]
 pub fn freed(s: State, t: State) -> Reply
     ensures { result ≡ select_and_transfer_free s t }
 {

@@ -27,6 +27,7 @@ ghost use Rattle.chip.specs.SelectAndTransfer.{
 use chip::{Direction, Phase, Reply, Stage, State};
 use state::{get, set};
 
+#[tactic(auto, unfolding(chip::specs::SelectAndTransfer::send_identify, chip::specs::Choice::pick))]
 fn send_identify(p: Phase, s: State) -> Reply
     ensures { result ≡ send_identify p s }
 {
@@ -38,6 +39,7 @@ fn send_identify(p: Phase, s: State) -> Reply
 }
 
 // x is how many command bytes were taken, so it is below the longest command's 12.
+#[tactic(auto, unfolding(chip::specs::SelectAndTransfer::send_command, chip::specs::Choice::pick))]
 fn send_command(x: u8, p: Phase, s: State) -> Reply
     requires { x < 12 }
     ensures { result ≡ send_command x p s }
@@ -52,6 +54,7 @@ fn send_command(x: u8, p: Phase, s: State) -> Reply
     take::unexpected(p, s)
 }
 
+#[tactic(auto, unfolding(chip::specs::SelectAndTransfer::phase_after, chip::specs::Choice::pick))]
 fn phase_after(s: State) -> u8
     ensures { result ≡ phase_after s }
 {
@@ -61,6 +64,7 @@ fn phase_after(s: State) -> u8
     s.registers.descriptor.phase
 }
 
+#[tactic(auto, unfolding(chip::specs::SelectAndTransfer::send_data, chip::specs::Choice::pick))]
 fn send_data(s: State) -> Reply
     ensures { result ≡ send_data s }
 {
@@ -72,6 +76,7 @@ fn send_data(s: State) -> Reply
     answers::done(fifo::front(q), set::phase(t, phase_after(s)))
 }
 
+#[tactic(auto, unfolding(chip::specs::SelectAndTransfer::take_data, chip::specs::Choice::pick, chip::specs::TransferInfo::unless_halted))]
 fn take_data(b: u8, bad: bool, s: State) -> Reply
     ensures { result ≡ take_data b bad s }
 {
@@ -86,6 +91,7 @@ fn take_data(b: u8, bad: bool, s: State) -> Reply
     answers::held(s)
 }
 
+#[tactic(auto, unfolding(chip::specs::SelectAndTransfer::data_out))]
 fn data_out(d: Direction, s: State) -> Reply
     ensures { result ≡ data_out d s }
 {
@@ -96,6 +102,7 @@ fn data_out(d: Direction, s: State) -> Reply
     }
 }
 
+#[tactic(auto, unfolding(chip::specs::SelectAndTransfer::data_in))]
 fn data_in(d: Direction, b: u8, bad: bool, s: State) -> Reply
     ensures { result ≡ data_in d b bad s }
 {
@@ -106,6 +113,7 @@ fn data_in(d: Direction, b: u8, bad: bool, s: State) -> Reply
     }
 }
 
+#[tactic(auto, unfolding(chip::specs::SelectAndTransfer::unless_none_left, chip::specs::SelectAndTransfer::data_out, chip::specs::Choice::pick))]
 fn body_data_out(s: State) -> Reply
     ensures { result ≡ unless_none_left Phase.DataOut s (data_out s.transfer.direction s) }
 {
@@ -115,6 +123,7 @@ fn body_data_out(s: State) -> Reply
     data_out(get::direction(s), s)
 }
 
+#[tactic(auto, unfolding(chip::specs::SelectAndTransfer::unless_none_left, chip::specs::SelectAndTransfer::data_in, chip::specs::Choice::pick, chip::specs::Choice::both, chip::specs::Choice::either))]
 fn body_data_in(b: u8, bad: bool, s: State) -> Reply
     ensures { result ≡ unless_none_left Phase.DataIn s (data_in s.transfer.direction b bad s) }
 {
@@ -124,6 +133,7 @@ fn body_data_in(b: u8, bad: bool, s: State) -> Reply
     data_in(get::direction(s), b, bad, s)
 }
 
+#[tactic(auto, unfolding(chip::specs::SelectAndTransfer::body_request))]
 fn body_request(p: Phase, b: u8, bad: bool, s: State) -> Reply
     ensures { result ≡ body_request p b bad s }
 {
@@ -139,6 +149,7 @@ fn body_request(p: Phase, b: u8, bad: bool, s: State) -> Reply
     }
 }
 
+#[tactic(auto, unfolding(chip::specs::SelectAndTransfer::late_request))]
 fn late_request(p: Phase, b: u8, bad: bool, s: State) -> Reply
     ensures { result ≡ late_request p b bad s }
 {
@@ -154,6 +165,7 @@ fn late_request(p: Phase, b: u8, bad: bool, s: State) -> Reply
     }
 }
 
+#[tactic(auto, unfolding(chip::specs::SelectAndTransfer::stage, chip::specs::SelectAndTransfer::request_at))]
 fn request_at(stage: Stage, p: Phase, b: u8, bad: bool, s: State) -> Reply
     requires { Sendable stage }
     ensures { result ≡ request_at stage p b bad s }
@@ -170,6 +182,7 @@ fn request_at(stage: Stage, p: Phase, b: u8, bad: bool, s: State) -> Reply
     }
 }
 
+#[tactic(auto, unfolding(chip::specs::SelectAndTransfer::select_and_transfer_request))]
 pub fn request(p: Phase, b: u8, bad: bool, s: State) -> Reply
     ensures { result ≡ select_and_transfer_request p b bad s }
 {

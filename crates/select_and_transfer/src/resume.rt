@@ -6,12 +6,14 @@ use crate::stage;
 use chip::{Activity, Command, Noted, State};
 use state::set;
 
+#[tactic(auto, unfolding(chip::specs::SelectAndTransfer::from_disconnected))]
 pub fn from_disconnected(s: State) -> State
     ensures { result ≡ from_disconnected s }
 {
     set::phase(count::loaded(s), 0x00)
 }
 
+#[tactic(auto, unfolding(chip::specs::SelectAndTransfer::is_early, chip::specs::Choice::either))]
 fn is_early(phase: u8) -> bool
     ensures { result ≡ is_early phase }
 {
@@ -24,12 +26,14 @@ fn is_early(phase: u8) -> bool
     phase == 0x30
 }
 
+#[tactic(auto, unfolding(chip::specs::SelectAndTransfer::is_middle, chip::specs::Choice::either))]
 fn is_middle(phase: u8) -> bool
     ensures { result ≡ is_middle phase }
 {
     (phase == 0x41) | ((phase == 0x42) | ((phase == 0x44) | (phase == 0x45)))
 }
 
+#[tactic(auto, unfolding(chip::specs::SelectAndTransfer::is_at_end, chip::specs::Choice::either))]
 fn is_at_end(phase: u8) -> bool
     ensures { result ≡ is_at_end phase }
 {
@@ -42,6 +46,7 @@ fn is_at_end(phase: u8) -> bool
     phase == 0x60
 }
 
+#[tactic(auto, unfolding(chip::specs::SelectAndTransfer::is_resumable, chip::specs::Choice::pick, chip::specs::Choice::either))]
 pub fn is_resumable(s: State) -> bool
     ensures { result ≡ is_resumable s }
 {
@@ -55,6 +60,7 @@ pub fn is_resumable(s: State) -> bool
     is_at_end(phase)
 }
 
+#[tactic(auto, unfolding(chip::specs::SelectAndTransfer::ack_after_resume, chip::specs::Choice::both))]
 fn ack_after_resume(s: State) -> bool
     ensures { result ≡ ack_after_resume s }
 {
@@ -64,6 +70,7 @@ fn ack_after_resume(s: State) -> bool
     false
 }
 
+#[tactic(auto, unfolding(chip::specs::SelectAndTransfer::resumed, chip::specs::Choice::pick))]
 pub fn resumed(r: Command, s: State) -> State
     ensures { result ≡ resumed r s }
 {

@@ -5,6 +5,7 @@ ghost use Rattle.chip.specs.SelectAndTransfer.{first_stage, has_size, is_command
 use chip::{Stage, State};
 use state::activity;
 
+#[tactic(auto, unfolding(chip::specs::SelectAndTransfer::size_of, chip::specs::Choice::pick))]
 fn size_of(b: u8) -> u8
     ensures { result ≡ size_of b }
 {
@@ -21,6 +22,7 @@ fn size_of(b: u8) -> u8
     0
 }
 
+#[tactic(auto, unfolding(chip::specs::SelectAndTransfer::size))]
 pub fn size(s: State) -> u8
     ensures { result ≡ size s }
 {
@@ -30,12 +32,14 @@ pub fn size(s: State) -> u8
     size_of(cdb[0])
 }
 
+#[tactic(auto, unfolding(chip::specs::SelectAndTransfer::has_size))]
 pub fn has_size(s: State) -> bool
     ensures { result ≡ has_size s }
 {
     0 < size(s)
 }
 
+#[tactic(auto, unfolding(chip::specs::SelectAndTransfer::first_stage, chip::specs::Choice::pick))]
 fn first_stage(n: u8) -> Stage
     ensures { result ≡ first_stage n }
 {
@@ -45,6 +49,7 @@ fn first_stage(n: u8) -> Stage
     Stage::Elsewhere
 }
 
+#[tactic(auto, unfolding(chip::specs::SelectAndTransfer::next_stage, chip::specs::Choice::pick))]
 fn next_stage(x: u8, n: u8) -> Stage
     ensures { result ≡ next_stage x n }
 {
@@ -57,6 +62,7 @@ fn next_stage(x: u8, n: u8) -> Stage
     Stage::Elsewhere
 }
 
+#[tactic(auto, unfolding(chip::specs::SelectAndTransfer::is_command_phase, chip::specs::Choice::both))]
 fn is_command_phase(phase: u8) -> bool
     ensures { result ≡ is_command_phase phase }
 {
@@ -76,6 +82,7 @@ fn above_30(phase: u8) -> u8
     0
 }
 
+#[tactic(auto, unfolding(chip::specs::SelectAndTransfer::stage_of, chip::specs::Choice::pick))]
 fn stage_of(identifies: bool, phase: u8, n: u8) -> Stage
     ensures { result ≡ stage_of identifies phase n }
 {
@@ -116,6 +123,7 @@ fn stage_of(identifies: bool, phase: u8, n: u8) -> Stage
 }
 
 // What the phase register of the running command stands for.
+#[tactic(auto, unfolding(chip::specs::SelectAndTransfer::stage))]
 pub fn stage(s: State) -> Stage
     ensures { result ≡ stage s }
 {

@@ -8,6 +8,7 @@ ghost use Rattle.chip.specs.SelectAndTransfer.{completed, take_complete, take_di
 use chip::{Noted, Phase, Reply, State};
 use state::set;
 
+#[tactic(auto, unfolding(chip::specs::SelectAndTransfer::unexpected, chip::specs::Interrupts::unless_interrupt, chip::specs::Choice::pick))]
 pub fn unexpected(p: Phase, s: State) -> Reply
     ensures { result ≡ unexpected p s }
 {
@@ -17,6 +18,7 @@ pub fn unexpected(p: Phase, s: State) -> Reply
     ))
 }
 
+#[tactic(auto, unfolding(chip::specs::SelectAndTransfer::take_status, chip::specs::TransferInfo::unless_halted, chip::specs::Choice::pick))]
 pub fn status(b: u8, bad: bool, s: State) -> Reply
     ensures { result ≡ take_status b bad s }
 {
@@ -27,6 +29,7 @@ pub fn status(b: u8, bad: bool, s: State) -> Reply
     answers::done(b, set::phase(set::lun(t, b), 0x50))
 }
 
+#[tactic(auto, unfolding(chip::specs::SelectAndTransfer::take_save, chip::specs::TransferInfo::unless_halted, chip::specs::Interrupts::unless_interrupt, chip::specs::Choice::pick))]
 fn save(bad: bool, s: State) -> Reply
     ensures { result ≡ take_save bad s }
 {
@@ -40,6 +43,7 @@ fn save(bad: bool, s: State) -> Reply
     )
 }
 
+#[tactic(auto, unfolding(chip::specs::SelectAndTransfer::take_disconnect, chip::specs::TransferInfo::unless_halted, chip::specs::Choice::pick))]
 fn disconnect(bad: bool, s: State) -> Reply
     ensures { result ≡ take_disconnect bad s }
 {
@@ -49,6 +53,7 @@ fn disconnect(bad: bool, s: State) -> Reply
     answers::done(0x04, set::phase(transfer_info::parity_noted(bad, s), 0x42))
 }
 
+#[tactic(auto, unfolding(chip::specs::SelectAndTransfer::take_message, chip::specs::Choice::pick))]
 pub fn message(b: u8, bad: bool, s: State) -> Reply
     ensures { result ≡ take_message b bad s }
 {
@@ -61,6 +66,7 @@ pub fn message(b: u8, bad: bool, s: State) -> Reply
     unexpected(Phase::MessageIn, s)
 }
 
+#[tactic(auto, unfolding(chip::specs::Choice::both, chip::specs::Lines::identify, chip::specs::Lines::lun_of))]
 fn is_our_identify(p: Phase, b: u8, s: State) -> bool
     ensures { result ≡ both (is_message_in p) (eqb b (identify (lun_of s) false)) }
 {
@@ -70,6 +76,7 @@ fn is_our_identify(p: Phase, b: u8, s: State) -> bool
     false
 }
 
+#[tactic(auto, unfolding(chip::specs::SelectAndTransfer::take_identify, chip::specs::Choice::pick, chip::specs::TransferInfo::unless_halted))]
 pub fn identify(p: Phase, b: u8, bad: bool, s: State) -> Reply
     ensures { result ≡ take_identify p b bad s }
 {
@@ -82,6 +89,7 @@ pub fn identify(p: Phase, b: u8, bad: bool, s: State) -> Reply
     unexpected(p, s)
 }
 
+#[tactic(auto, unfolding(chip::specs::Choice::both))]
 fn is_complete(p: Phase, b: u8) -> bool
     ensures { result ≡ both (is_message_in p) (eqb b 0) }
 {
@@ -91,6 +99,7 @@ fn is_complete(p: Phase, b: u8) -> bool
     false
 }
 
+#[tactic(auto, unfolding(chip::specs::SelectAndTransfer::completed, chip::specs::TransferInfo::unless_halted, chip::specs::Interrupts::unless_interrupt, chip::specs::Choice::pick))]
 fn completed(bad: bool, s: State) -> Reply
     ensures { result ≡ completed bad s }
 {
@@ -104,6 +113,7 @@ fn completed(bad: bool, s: State) -> Reply
     answers::done(0x00, interrupts::ending_with(0x16, t))
 }
 
+#[tactic(auto, unfolding(chip::specs::SelectAndTransfer::take_complete, chip::specs::Choice::pick))]
 pub fn complete(p: Phase, b: u8, bad: bool, s: State) -> Reply
     ensures { result ≡ take_complete p b bad s }
 {

@@ -20,6 +20,7 @@ fn command_number(r: Command) -> u8
     }
 }
 
+#[tactic(auto, unfolding(chip::specs::Activity::command_of, chip::specs::Choice::pick))]
 fn command_of(n: u8) -> Command
     ensures { result ≡ command_of n }
 {
@@ -75,6 +76,7 @@ pub fn code_to_come(a: Activity) -> u8
 }
 
 // The activity with p pending, the code k to come, and the command n.
+#[tactic(auto, unfolding(chip::specs::Activity::activity_of, chip::specs::Choice::pick))]
 pub fn activity_of(p: u8, k: u8, n: u8) -> Activity
     ensures { result ≡ activity_of p k n }
 {

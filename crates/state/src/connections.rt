@@ -19,6 +19,7 @@ pub fn connection_number(x: Connection) -> u8
     }
 }
 
+#[tactic(auto, unfolding(chip::specs::Connections::connection_of, chip::specs::Choice::pick))]
 pub fn connection_of(n: u8) -> Connection
     ensures { result ≡ connection_of n }
 {

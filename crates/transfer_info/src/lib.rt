@@ -26,6 +26,7 @@ use chip::{Noted, Phase, Reply, State};
 use state::{get, set};
 
 // A byte whose parity halts the transfer.
+#[tactic(auto, unfolding(chip::specs::Choice::both, chip::specs::Lines::hsp))]
 pub fn halts(bad: bool, s: State) -> bool
     ensures { result ≡ both bad (hsp s) }
 {
@@ -35,6 +36,7 @@ pub fn halts(bad: bool, s: State) -> bool
     false
 }
 
+#[tactic(auto, unfolding(chip::specs::TransferInfo::halted, chip::specs::Interrupts::unless_interrupt, chip::specs::Choice::pick))]
 pub fn halted(s: State) -> Reply
     ensures { result ≡ halted s }
 {
@@ -42,6 +44,7 @@ pub fn halted(s: State) -> Reply
     answers::reports(interrupts::ending_with(0x43, t))
 }
 
+#[tactic(auto, unfolding(chip::specs::Choice::either))]
 fn pe_after(pe: bool, bad: bool) -> bool
     ensures { result ≡ either pe bad }
 {
@@ -51,12 +54,14 @@ fn pe_after(pe: bool, bad: bool) -> bool
     bad
 }
 
+#[tactic(auto, unfolding(chip::specs::TransferInfo::parity_noted))]
 pub fn parity_noted(bad: bool, s: State) -> State
     ensures { result ≡ parity_noted bad s }
 {
     set::pe(s, pe_after(s.status.pe, bad))
 }
 
+#[tactic(auto, unfolding(chip::specs::Choice::both, chip::specs::Count::is_last))]
 fn is_last_message_out(p: Phase, s: State) -> bool
     ensures { result ≡ both (is_message_out p) (is_last s) }
 {
@@ -66,6 +71,7 @@ fn is_last_message_out(p: Phase, s: State) -> bool
     false
 }
 
+#[tactic(auto, unfolding(chip::specs::Choice::both, chip::specs::Count::is_last))]
 fn is_last_message_in(p: Phase, s: State) -> bool
     ensures { result ≡ both (is_message_in p) (is_last s) }
 {
@@ -75,6 +81,7 @@ fn is_last_message_in(p: Phase, s: State) -> bool
     false
 }
 
+#[tactic(auto, unfolding(chip::specs::TransferInfo::atn_after, chip::specs::Choice::pick))]
 fn atn_after(p: Phase, s: State) -> bool
     ensures { result ≡ atn_after p s }
 {
@@ -84,6 +91,7 @@ fn atn_after(p: Phase, s: State) -> bool
     s.wire.handshake.atn
 }
 
+#[tactic(auto, unfolding(chip::specs::TransferInfo::transfer_info_sent, chip::specs::Choice::pick))]
 fn sent(p: Phase, s: State) -> Reply
     ensures { result ≡ transfer_info_sent p s }
 {
@@ -95,6 +103,7 @@ fn sent(p: Phase, s: State) -> Reply
     answers::done(fifo::front(q), set::atn(t, atn_after(p, s)))
 }
 
+#[tactic(auto, unfolding(chip::specs::TransferInfo::taken_in))]
 pub fn taken_in(b: u8, bad: bool, s: State) -> State
     ensures { result ≡ taken_in b bad s }
 {
@@ -102,6 +111,7 @@ pub fn taken_in(b: u8, bad: bool, s: State) -> State
     count::lowered(set::fifo(parity_noted(bad, s), fifo::push(b, q)))
 }
 
+#[tactic(auto, unfolding(chip::specs::TransferInfo::transfer_info_taken, chip::specs::Choice::pick, chip::specs::Interrupts::unless_interrupt))]
 fn taken(p: Phase, b: u8, bad: bool, s: State) -> Reply
     ensures { result ≡ transfer_info_taken p b bad s }
 {
@@ -113,6 +123,7 @@ fn taken(p: Phase, b: u8, bad: bool, s: State) -> Reply
     answers::done(b, t)
 }
 
+#[tactic(auto, unfolding(chip::specs::TransferInfo::transfer_info_offered, chip::specs::Choice::pick, chip::specs::TransferInfo::unless_halted))]
 fn offered(p: Phase, b: u8, bad: bool, s: State) -> Reply
     ensures { result ≡ transfer_info_offered p b bad s }
 {
@@ -126,6 +137,7 @@ fn offered(p: Phase, b: u8, bad: bool, s: State) -> Reply
     answers::held(s)
 }
 
+#[tactic(auto, unfolding(chip::specs::TransferInfo::over_code, chip::specs::Choice::pick))]
 fn over_code(p: Phase, s: State) -> u8
     ensures { result ≡ over_code p s }
 {
@@ -135,6 +147,7 @@ fn over_code(p: Phase, s: State) -> u8
     phases::coded(0x48, p)
 }
 
+#[tactic(auto, unfolding(chip::specs::TransferInfo::transfer_info_over, chip::specs::Interrupts::unless_interrupt, chip::specs::Choice::pick))]
 fn over(p: Phase, s: State) -> Reply
     ensures { result ≡ transfer_info_over p s }
 {
@@ -149,6 +162,7 @@ pub fn is_reported(p: Phase, s: State) -> bool
 }
 
 // A Request of the phase under transfer with bytes left.
+#[tactic(auto, unfolding(chip::specs::Choice::both, chip::specs::Count::none_left))]
 fn moves(p: Phase, s: State) -> bool
     ensures { result ≡ both (is_noted p s.wire.seen.reported) (not (none_left s)) }
 {
@@ -161,6 +175,7 @@ fn moves(p: Phase, s: State) -> bool
     false
 }
 
+#[tactic(auto, unfolding(chip::specs::TransferInfo::transfer_info_request, chip::specs::Choice::pick))]
 pub fn request(p: Phase, b: u8, bad: bool, s: State) -> Reply
     ensures { result ≡ transfer_info_request p b bad s }
 {
@@ -173,6 +188,7 @@ pub fn request(p: Phase, b: u8, bad: bool, s: State) -> Reply
     over(p, s)
 }
 
+#[tactic(auto, unfolding(chip::specs::TransferInfo::transfer_info_free_code, chip::specs::Choice::pick))]
 fn free_code(s: State) -> u8
     ensures { result ≡ transfer_info_free_code s }
 {
@@ -183,6 +199,7 @@ fn free_code(s: State) -> u8
 }
 
 // What a Free does to it. t is s with the bus free.
+#[tactic(auto, unfolding(chip::specs::TransferInfo::transfer_info_free, chip::specs::Interrupts::unless_interrupt, chip::specs::Choice::pick))]
 pub fn free(s: State, t: State) -> Reply
     ensures { result ≡ transfer_info_free s t }
 {

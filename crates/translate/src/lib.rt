@@ -9,12 +9,14 @@ ghost use Rattle.chip.specs.Translate.{address_of, exceeds, geometry_of, has_spa
 use chip::State;
 use state::set;
 
+#[tactic(auto, unfolding(chip::specs::Translate::joined))]
 fn joined(high: u8, low: u8) -> u32
     ensures { result ≡ joined high low }
 {
     (high as u32) * 256 + (low as u32)
 }
 
+#[tactic(auto, unfolding(chip::specs::Translate::joined))]
 fn four_joined(a: u8, b: u8, c: u8, d: u8) -> u32
     ensures { result ≡ joined (joined (joined a b) c) d }
 {
@@ -27,12 +29,14 @@ fn times(a: u8, b: u8) -> u32
     (a as u32) * (b as u32)
 }
 
+#[tactic(auto, unfolding(chip::specs::Translate::has_spares_in))]
 fn has_spares(cdb: [u8; 12]) -> bool
     ensures { result ≡ has_spares_in cdb }
 {
     cdb[9] != 0
 }
 
+#[tactic(auto, unfolding(chip::specs::Translate::per_cylinder_in, chip::specs::Choice::pick))]
 fn per_cylinder(cdb: [u8; 12]) -> u32
     ensures { result ≡ per_cylinder_in cdb }
 {
@@ -48,12 +52,14 @@ fn cylinders(cdb: [u8; 12]) -> u32
     joined(cdb[2], cdb[3])
 }
 
+#[tactic(auto, unfolding(chip::specs::Translate::address_of))]
 fn address(cdb: [u8; 12]) -> u32
     ensures { result ≡ address_of cdb }
 {
     four_joined(cdb[4], cdb[5], cdb[6], cdb[7])
 }
 
+#[tactic(auto, unfolding(chip::specs::Translate::has_too_many_cylinders, chip::specs::Translate::has_too_many_heads, chip::specs::Choice::either, chip::specs::Choice::both))]
 fn has_too_many(cdb: [u8; 12]) -> bool
     ensures { result ≡ either (has_too_many_cylinders (geometry_of cdb)) (has_too_many_heads (geometry_of cdb)) }
 {
@@ -67,6 +73,7 @@ fn has_too_many(cdb: [u8; 12]) -> bool
 }
 
 // The quotients are compared whole: their registers hold only 8 and 16 bits.
+#[tactic(auto, unfolding(chip::specs::Translate::exceeds, chip::specs::Translate::divides_by_zero, chip::specs::Choice::either, chip::specs::Translate::is_beyond_heads, chip::specs::Translate::head_of, chip::specs::Translate::is_beyond_cylinders, chip::specs::Translate::cylinder_of))]
 fn exceeds(cdb: [u8; 12]) -> bool
     ensures { result ≡ exceeds (geometry_of cdb) (address_of cdb) }
 {
@@ -97,6 +104,7 @@ fn below(n: u32, total: u8) -> u8
 }
 
 // .. and one below a total of 16 bits has a high byte.
+#[tactic(auto, unfolding(chip::specs::Translate::joined))]
 fn high_byte(n: u32, high: u8, low: u8) -> u8
     requires { n < joined high low }
     ensures { result ≡ n / 256 }
@@ -105,6 +113,7 @@ fn high_byte(n: u32, high: u8, low: u8) -> u8
 }
 
 // Registers 0Bh to 0Eh written: sector, head, cylinder.
+#[tactic(auto, unfolding(chip::specs::Translate::head_of, chip::specs::Translate::cylinder_of, chip::specs::Translate::placed, chip::specs::Translate::sector_of))]
 fn placed(cdb: [u8; 12]) -> [u8; 12]
     requires { exceeds (geometry_of cdb) (address_of cdb) ≡ false }
     ensures { result ≡ placed (physical_of (geometry_of cdb) (address_of cdb)) cdb }
@@ -121,6 +130,7 @@ fn placed(cdb: [u8; 12]) -> [u8; 12]
     r
 }
 
+#[tactic(auto, unfolding(chip::specs::Translate::translated, chip::specs::Translate::translated_by, chip::specs::Choice::pick))]
 pub fn translated(s: State) -> State
     ensures { result ≡ translated s }
 {

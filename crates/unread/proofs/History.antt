@@ -174,8 +174,12 @@ in_order (c ∷ l) s = preceded (leads c s) (in_order l (step c s).state)
 -- from an unread code on, the next code that is no Reset's comes after a read
 read_before : {w : ℕ} (k : ℕ) (j h : List Happening) → Orderly w unread (h ++ (H.raises k ∷ j)) → has_read h ≡ true
 unfolding has_read either
+read_before {w = w} k j [] x' = elim x' [ ]
+read_before {w = w} k j (H.raises code ∷ h) x4 = elim x4 [ ]
 read_before k j (H.resets i ∷ h) (H.resetting o) = read_before k j h o
 read_before k j (H.reads v ∷ h) (H.reading o) = refl
+read_before {w = w} k j (H.begins code ∷ h) x4 = elim x4 [ ]
+read_before {w = w} k j (H.disconnects ∷ h) x4 = elim x4 [ ]
 
 -- what is left of an orderly history is orderly, from some code on
 later : {k : ℕ} {w : Owed} (g h : List Happening) → Orderly k w (g ++ h) → (j : ℕ) × (v : Owed) × Orderly j v h
