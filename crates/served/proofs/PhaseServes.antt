@@ -186,8 +186,8 @@ module _ (j : Job) (whole : List Item) (total : List Note) where
             (true_or_false (comes_in p));
       }
 
-  code_on : {c m x pa el : ℕ} {l e at o f : Bool} {q : Fifo} {d : Direction} {ls : Noted} {id : Kept} {td : List Access} {r : Registers}
-      {bs y : List ℕ} {g : List Seg} {p : Phase} {log got : List Item} {n rest : List Note}
+  code_on : {c m pa el : ℕ} {l e at o : Bool} {q : Fifo} {d : Direction} {ls : Noted} {id : Kept} {bs y : List ℕ} {g : List Seg} {p : Phase}
+      {log got : List Item} {rest : List Note} {td : List Access} {x : ℕ} {f : Bool} {r : Registers} {n : List Note}
       → Plays (put 0x18 0x20 ∷ []) (Counted j whole total p rest) td r n
       → Good j whole total (seg p bs y ∷ g)
       → B
@@ -195,10 +195,10 @@ module _ (j : Job) (whole : List Item) (total : List Note) where
       (the_host td f p (give_for j p) got n) (the_target talking pa log (flat (seg p bs y ∷ g))))
   unfolding scenes
   code_on (over k) w = attend_at (by_phases j) (bus_named _ _ _ _ _ _ _ _ _ _ _ _ _ _ _ _ unasked w) (command_on k w)
-  code_on {c = c} {m = m} {x = x} {l = l} {e = e} {o = o} {f = f} {q = q} {d = d} {td = td} {r = r} {p = ph} {got = got} {n = n} (puts {a = a} {b = b} {l = k} u h p) w =
+  code_on {c = c} {m = m} {l = l} {e = e} {o = o} {q = q} {d = d} {p = ph} {got = got} {td = td} {x = x} {f = f} {r = r} {n = n} (puts {a = a} {b = b} {l = k} u h p) w =
       wait_at (by_phases j) _ _ (bus_named _ _ _ _ _ _ _ _ _ _ _ _ _ _ _ _ unasked w) refl
       (put_done r c m l e Idle q d o _ refl (by_phases j) ph (give_for j ph) got n _ x f td k a b u h) (code_on p w)
-  code_on {c = c} {m = m} {x = x} {l = l} {e = e} {o = o} {f = f} {q = q} {d = d} {td = td} {r = r} {p = ph} {got = got} {n = n} (gets {a = a} {l = k} u p) w =
+  code_on {c = c} {m = m} {l = l} {e = e} {o = o} {q = q} {d = d} {p = ph} {got = got} {td = td} {x = x} {f = f} {r = r} {n = n} (gets {a = a} {l = k} u p) w =
       wait_at (by_phases j) _ _ (bus_named _ _ _ _ _ _ _ _ _ _ _ _ _ _ _ _ unasked w) refl
       (get_done r c m l e Idle q d o _ refl (by_phases j) ph (give_for j ph) got n _ x f td k a u) (code_on p w)
 
@@ -231,8 +231,8 @@ module _ (j : Job) (whole : List Item) (total : List Note) where
       rw (phase_small ph, shown_byte (comes_in ph) b (f.bytes 0))
 
   -- the bytes that came in are read out, then the code is raised
-  drain_on : {c k m x pa el ow ct tm lu ph sy lf ds sr b : ℕ} {l e at o : Bool} {q : Fifo} {ls : Noted} {id : Kept}
-      {cd v bs y : List ℕ} {g : List Seg} {p cr : Phase} {log got : List Item} {n : List Note} (fifo : List ℕ)
+  drain_on : {c k m pa el ow ct tm lu ph sy lf ds sr : ℕ} {l e at o : Bool} {ls : Noted} {id : Kept}
+      {cd v bs y : List ℕ} {g : List Seg} {p cr : Phase} {log : List Item} {n : List Note} (fifo : List ℕ) {b x : ℕ} {q : Fifo} {got : List Item}
       → comes_in cr ≡ true
       → Lined q (b ∷ fifo)
       → Names k p
@@ -266,18 +266,18 @@ module _ (j : Job) (whole : List Item) (total : List Note) where
   unfolding steps
   select_on = attend (by_phases j) _ (record { asks = refl; on = now refl })
 
-  load_on : {c m x pa el : ℕ} {l e at o f : Bool} {q : Fifo} {d : Direction} {rp ls : Noted} {id : Kept} {td : List Access} {r : Registers}
-      {n : List Note} {t : List Item}
+  load_on : {c m pa el : ℕ} {l e at o : Bool} {q : Fifo} {d : Direction} {rp ls : Noted} {id : Kept} {t : List Item} {td : List Access} {x : ℕ}
+      {f : Bool} {r : Registers} {n : List Note}
       → Plays (put 0x18 0x06 ∷ []) (Ready j whole total) td r n
       → B
       (the_scene (the_state r (the_status x c m l e) Idle q (the_transfer d o) (the_wire Disconnected at false rp ls id el))
       (the_host td f MessageOut [] [] n) (the_target calling pa [] t))
   unfolding scenes
   load_on (over g) = select_on
-  load_on {c = c} {m = m} {x = x} {l = l} {e = e} {o = o} {f = f} {q = q} {d = d} {td = td} {r = r} {n = n} (puts {a = a} {b = b} {l = k} u h p) =
+  load_on {c = c} {m = m} {l = l} {e = e} {o = o} {q = q} {d = d} {td = td} {x = x} {f = f} {r = r} {n = n} (puts {a = a} {b = b} {l = k} u h p) =
       wait_at (by_phases j) _ _ (bus_idle (by_phases j) _ _ _ _ _ _ _ _ _ _ _ _ _ _) refl
       (put_done r c m l e Idle q d o _ refl (by_phases j) MessageOut [] [] n _ x f td k a b u h) (load_on p)
-  load_on {c = c} {m = m} {x = x} {l = l} {e = e} {o = o} {f = f} {q = q} {d = d} {td = td} {r = r} {n = n} (gets {a = a} {l = k} u p) =
+  load_on {c = c} {m = m} {l = l} {e = e} {o = o} {q = q} {d = d} {td = td} {x = x} {f = f} {r = r} {n = n} (gets {a = a} {l = k} u p) =
       wait_at (by_phases j) _ _ (bus_idle (by_phases j) _ _ _ _ _ _ _ _ _ _ _ _ _ _) refl
       (get_done r c m l e Idle q d o _ refl (by_phases j) MessageOut [] [] n _ x f td k a u) (load_on p)
 

@@ -61,18 +61,18 @@ module _ {s₀ : State} (j : Job) (pr : Proper s₀ j) where
   command_on {r = r} g =
       attend (by_transfer j) _ (record { asks = refl; on = rw (lt-ltb 0 (size_of (get_or r.descriptor.cdb 0 0)) (has_size_lem j pr g.set)) (now refl) })
 
-  load_on : {c m x pa el : ℕ} {l e at o f : Bool} {q : Fifo} {d : Direction} {rp ls : Noted} {id : Kept} {td : List Access} {r : Registers}
-      {v : List ℕ} {n : List Note} {hp : Phase} {t : List Item}
+  load_on : {c m pa el : ℕ} {l e at o : Bool} {q : Fifo} {d : Direction} {rp ls : Noted} {id : Kept} {v : List ℕ} {hp : Phase} {t : List Item}
+      {td : List Access} {x : ℕ} {f : Bool} {r : Registers} {n : List Note}
       → Plays (put 0x18 0x08 ∷ []) (Ready j) td r n
       → B
       (the_scene (the_state r (the_status x c m l e) Idle q (the_transfer d o) (the_wire Disconnected at false rp ls id el))
       (the_host td f hp v [] n) (the_target calling pa [] t))
   unfolding scenes
   load_on (over g) = command_on g
-  load_on {c = c} {m = m} {x = x} {l = l} {e = e} {o = o} {f = f} {q = q} {d = d} {td = td} {r = r} {v = v} {n = n} {hp = hp} (puts {a = a} {b = b} {l = k} u h p) =
+  load_on {c = c} {m = m} {l = l} {e = e} {o = o} {q = q} {d = d} {v = v} {hp = hp} {td = td} {x = x} {f = f} {r = r} {n = n} (puts {a = a} {b = b} {l = k} u h p) =
       wait_at (by_transfer j) _ _ (bus_idle (by_transfer j) _ _ _ _ _ _ _ _ _ _ _ _ _ _) refl
       (put_done r c m l e Idle q d o _ refl (by_transfer j) hp v [] n _ x f td k a b u h) (load_on p)
-  load_on {c = c} {m = m} {x = x} {l = l} {e = e} {o = o} {f = f} {q = q} {d = d} {td = td} {r = r} {v = v} {n = n} {hp = hp} (gets {a = a} {l = k} u p) =
+  load_on {c = c} {m = m} {l = l} {e = e} {o = o} {q = q} {d = d} {v = v} {hp = hp} {td = td} {x = x} {f = f} {r = r} {n = n} (gets {a = a} {l = k} u p) =
       wait_at (by_transfer j) _ _ (bus_idle (by_transfer j) _ _ _ _ _ _ _ _ _ _ _ _ _ _) refl
       (get_done r c m l e Idle q d o _ refl (by_transfer j) hp v [] n _ x f td k a u) (load_on p)
 
@@ -210,8 +210,8 @@ module _ {s₀ : State} (j : Job) (pr : Proper s₀ j) where
   unfolding steps
   tell_on = attend (by_transfer j) _ (record { asks = rw asked_is; on = rw asked_is (now refl) })
 
-  end_on : {c m x pa el ow ct tm sy ds sr n b : ℕ} {l e at : Bool} {rp ls : Noted} {id : Kept} {cd v : List ℕ} {log got : List Item} {q : Fifo}
-      (fifo : List ℕ)
+  end_on : {c m pa el ow ct tm sy ds sr n : ℕ} {l e at : Bool} {rp ls : Noted} {id : Kept} {cd v : List ℕ} {log : List Item}
+      (fifo : List ℕ) {b x : ℕ} {q : Fifo} {got : List Item}
       → Lined q (b ∷ fifo)
       → B
       (the_scene
@@ -251,8 +251,8 @@ module _ {s₀ : State} (j : Job) (pr : Proper s₀ j) where
   unfolding steps
   free_on k = attend (by_transfer j) _ (record { asks = rw asked_is; on = rw asked_is (rest_on k) })
 
-  read_on : {m x pa el : ℕ} {l e at o f : Bool} {rp ls : Noted} {id : Kept} {v : List ℕ} {hp : Phase} {log got : List Item}
-      {q : Fifo} {d : Direction} {r : Registers} {n : List Note} {td : List Access}
+  read_on : {m pa el : ℕ} {l e at o : Bool} {rp ls : Noted} {id : Kept} {v : List ℕ} {hp : Phase} {log got : List Item}
+      {q : Fifo} {d : Direction} {td : List Access} {x : ℕ} {f : Bool} {r : Registers} {n : List Note}
       → Quiet d q
       → Aimed td f x
       → Plays [] (Finals j) td r n
@@ -261,9 +261,9 @@ module _ {s₀ : State} (j : Job) (pr : Proper s₀ j) where
       (the_host td f hp v got n) (the_target away pa log []))
   unfolding scenes
   read_on k before (over g) = free_on k
-  read_on {m = m} {x = x} {l = l} {e = e} {o = o} {f = f} {v = v} {hp = hp} {got = got} {q = q} {d = d} {r = r} {n = n} {td = td} z y (puts {a = a} {b = b} {l = k} u h p) =
+  read_on {m = m} {l = l} {e = e} {o = o} {v = v} {hp = hp} {got = got} {q = q} {d = d} {td = td} {x = x} {f = f} {r = r} {n = n} z y (puts {a = a} {b = b} {l = k} u h p) =
       wait_at (by_transfer j) _ _ refl refl (put_done r 0x85 m l e Interrupt q d o _ refl (by_transfer j) hp v got n _ x f td k a b u h) (read_on z before p)
-  read_on {m = m} {x = x} {l = l} {e = e} {o = o} {f = f} {v = v} {hp = hp} {got = got} {q = q} {d = d} {r = r} {n = n} {td = td} z y (gets {a = a} {l = k} u p) =
+  read_on {m = m} {l = l} {e = e} {o = o} {v = v} {hp = hp} {got = got} {q = q} {d = d} {td = td} {x = x} {f = f} {r = r} {n = n} z y (gets {a = a} {l = k} u p) =
       wait_at (by_transfer j) _ _ refl refl (get_done r 0x85 m l e Interrupt q d o _ refl (by_transfer j) hp v got n _ x f td k a u) (read_on z before p)
 
   pub brought : {c : Scene} → Reach j c → B c
