@@ -1,5 +1,5 @@
 -- A scene by its parts, what the host is about to do, and the lists of accesses that it goes through.
---   the_state .. the_scene   a scene by its parts; Kept, keptOf: what scenes hand on unasked
+--   the_state .. the_scene   a scene by its parts; Kept, kept_of: what scenes hand on unasked
 --   Aimed     where the pointer is set for the host's next access, it is that access's address
 --   Polls     the host looks, or makes the access that a look asked for, which is still as good as when it looked
 --   Tale, onto   the story as what has crossed and what is still to cross, and one item more crossed
