@@ -20,15 +20,15 @@ pub record AfterEntry : Type 0 where
   pub image : List ℕ
   pub lent : List ℕ
 
-abbrev pub result : Answer → ℕ
-result a = number a + 256 * value a
+abbrev pub result_of : Answer → ℕ
+result_of a = number a + 256 * value a
 
 abbrev pub written : Outcome → AfterEntry
-written o = record { result = result o.answer; image = image_of o.state; lent = o.lent }
+written o = record { result = result_of o.answer; image = image_of o.state; lent = o.lent }
 
 -- "Bad number .. nothing changed"
 abbrev pub refused : Call → List ℕ → AfterEntry
-refused c image = record { result = result BadNumber; image = image; lent = lent_by c }
+refused c image = record { result = result_of BadNumber; image = image; lent = lent_by c }
 
 unfoldable pub entered : Call → List ℕ → AfterEntry
 entered c image = pick (both (is_image image) (is_good c)) (written (carried c (state_of image))) (refused c image)
@@ -37,8 +37,8 @@ entered c image = pick (both (is_image image) (is_good c)) (written (carried c (
 unfoldable pub fresh_entered : List ℕ → AfterEntry
 fresh_entered image =
     pick (eqb (length image) image_length)
-    (record { result = result (Done 0); image = image_of fresh; lent = [] })
-    (record { result = result BadNumber; image = image; lent = [] })
+    (record { result = result_of (Done 0); image = image_of fresh; lent = [] })
+    (record { result = result_of BadNumber; image = image; lent = [] })
 
 -- bit 3 connected, bit 4 selecting, bit 5 waiting for reselection
 unfoldable pub connection_bits : Connection → ℕ

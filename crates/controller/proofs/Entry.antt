@@ -6,7 +6,7 @@ use Rattle.chip.proofs.Cases.{both_first}
 use Rattle.chip.specs.Choice.{pick, both}
 use Rattle.chip.specs.Calls.{Call, is_good, is_set, carried, plain, moved, block}
 use Rattle.chip.specs.Registers.{block_read, block_written}
-use Rattle.chip.specs.Entries.{AfterEntry, result, written, refused, entered, line_bits, lines_entered, fresh_entered}
+use Rattle.chip.specs.Entries.{AfterEntry, result_of, written, refused, entered, line_bits, lines_entered, fresh_entered}
 use Rattle.chip.specs.State.{fresh}
 use Rattle.chip.specs.Image.{image_of, state_of, is_image, image_length}
 use Rattle.chip.specs.declared.Reply.{Reply}
@@ -47,7 +47,7 @@ unfolding entered pick both
 taken c l i g = rw (i, g)
 
 pub served : (c : Call) (l : List ℕ) (r : Reading) (p : Reply) (n : ℕ) (after : List ℕ) → r ≡ read_of l → r.ok ≡ true
-    → is_good c ≡ true → carried c r.state ≡ plain p → n ≡ result p.answer
+    → is_good c ≡ true → carried c r.state ≡ plain p → n ≡ result_of p.answer
     → after ≡ pick (eqb (length l) image_length) (image_of p.state) l → (n ≡ (entered c l).result) × (after ≡ (entered c l).image)
 unfolding pick
 served c l r p n after e h g k a b =
@@ -66,7 +66,7 @@ entered_made c l p n after i g k m =
     (m.number ∙ sym (ap (λ (x : AfterEntry). x.result) w), m.image ∙ sym (ap (λ (x : AfterEntry). x.image) w))
 
 -- a call made on the state, and the whole image written
-pub finished : (l : List ℕ) (p : Reply) (n : ℕ) (after : List ℕ) → is_image l ≡ true → n ≡ result p.answer
+pub finished : (l : List ℕ) (p : Reply) (n : ℕ) (after : List ℕ) → is_image l ≡ true → n ≡ result_of p.answer
     → after ≡ pick (eqb (length l) image_length) (image_of p.state) l → Returns p n after
 unfolding pick
 finished l p n after i a b =

@@ -11,7 +11,7 @@ use Rattle.chip.specs.declared.Phase.{Phase}
 use Rattle.chip.specs.declared.Phase.TheVariants.{DataIn, DataOut}
 use Rattle.chip.specs.declared.Noted.TheVariants.{Was}
 use Rattle.chip.specs.Answers.{done}
-use Rattle.chip.specs.Entries.{result}
+use Rattle.chip.specs.Entries.{result_of}
 use Rattle.chip.specs.Fifo.{is_empty, has_room, front, pop, push, fifo_bytes, Goes}
 use Rattle.chip.specs.State.{fresh, set_pointer, set_fifo}
 use Rattle.chip.specs.Image.{image_of, state_of, image_length, fifo_place}
@@ -35,12 +35,12 @@ use Rattle.controller.proofs.InPlace.{At, at_start, fits, state_is, put_pointer_
 
 -- a reply as it is computed
 replied : (p r : Reply) (n : ℕ) (after : List ℕ) → p ≡ r → Returns r n after → Returns p n after
-replied p r n after e m = record { number = m.number ∙ ap (λ (x : Reply). result x.answer) (sym e); image = m.image ∙ ap (λ (x : Reply). image_of x.state) (sym e) }
+replied p r n after e m = record { number = m.number ∙ ap (λ (x : Reply). result_of x.answer) (sym e); image = m.image ∙ ap (λ (x : Reply). image_of x.state) (sym e) }
 
 moved_as : (p r : Moved) (n : ℕ) (after lent : List ℕ) → p ≡ r → ReturnsMoved r n after lent → ReturnsMoved p n after lent
 moved_as p r n after lent e m =
     record {
-      number = m.number ∙ ap (λ (x : Moved). result (Done x.number)) (sym e);
+      number = m.number ∙ ap (λ (x : Moved). result_of (Done x.number)) (sym e);
       image = m.image ∙ ap (λ (x : Moved). image_of x.state) (sym e);
       bytes = m.bytes ∙ ap (λ (x : Moved). x.bytes) (sym e);
     }
@@ -66,11 +66,11 @@ module _ (l : List ℕ) (o : IsImage l) where
       (record { number = ap (λ (x : State). 256 * x.status.pointer) (state_is l t o e) ∙ sym (zero-add _); image = start.image })
 
   pub auxiliary_made : (t : State) (r : Reply) (n : ℕ) → t ≡ pick (eqb (length l) image_length) (state_of l) fresh → r ≡ auxiliary_read t
-      → n ≡ result r.answer → Returns (auxiliary_read (state_of l)) n l
+      → n ≡ result_of r.answer → Returns (auxiliary_read (state_of l)) n l
   unfolding auxiliary_read
   auxiliary_made t r n e f h =
       let g : r ≡ auxiliary_read (state_of l) = f ∙ ap auxiliary_read (state_is l t o e) in
-      record { number = h ∙ ap (λ (x : Reply). result x.answer) g; image = start.image }
+      record { number = h ∙ ap (λ (x : Reply). result_of x.answer) g; image = start.image }
 
   pub plain_below : is_plain (state_of l) ≡ true → get_or l 25 0 < 23
   unfolding state_of
@@ -171,11 +171,11 @@ module _ (l : List ℕ) (o : IsImage l) where
 
   -- an access at 19h that moves nothing
 
-  pub data_refused : (b n : ℕ) → eqb (state_of l).status.pointer 0x19 ≡ true → reads_data (state_of l) ≡ false → n ≡ result NoDataNow
+  pub data_refused : (b n : ℕ) → eqb (state_of l).status.pointer 0x19 ≡ true → reads_data (state_of l) ≡ false → n ≡ result_of NoDataNow
       → Returns (accessed false b (state_of l)) n l
   data_refused b n e d m = replied _ _ _ _ (nothing_read (state_of l) e b d) (record { number = m; image = start.image })
 
-  pub write_refused : (b n : ℕ) → eqb (state_of l).status.pointer 0x19 ≡ true → writes_data (state_of l) ≡ false → n ≡ result NoDataNow
+  pub write_refused : (b n : ℕ) → eqb (state_of l).status.pointer 0x19 ≡ true → writes_data (state_of l) ≡ false → n ≡ result_of NoDataNow
       → Returns (accessed true b (state_of l)) n l
   write_refused b n e d m = replied _ _ _ _ (nothing_written (state_of l) e b d) (record { number = m; image = start.image })
 
@@ -239,14 +239,14 @@ module _ (l : List ℕ) (o : IsImage l) where
 
   -- a call made on the state, and the whole image written
   pub whole_made : (f : State → Reply) (t : State) (r : Reply) (n : ℕ) (after : List ℕ)
-      → t ≡ pick (eqb (length l) image_length) (state_of l) fresh → r ≡ f t → n ≡ result r.answer
+      → t ≡ pick (eqb (length l) image_length) (state_of l) fresh → r ≡ f t → n ≡ result_of r.answer
       → after ≡ pick (eqb (length l) image_length) (image_of r.state) l → Returns (f (state_of l)) n after
   whole_made f t r n after e g a b =
       replied _ _ _ _ (sym (g ∙ ap f (state_is l t o e))) (finished l r n after o.valid a b)
 
   -- a Request made on the state: it touches one place of the FIFO at most
   pub request_made : (p : Phase) (b : ℕ) (bad : Bool) (t : State) (r : Reply) (n : ℕ) (after : List ℕ)
-      → t ≡ pick (eqb (length l) image_length) (state_of l) fresh → r ≡ requested p b bad t → n ≡ result r.answer
+      → t ≡ pick (eqb (length l) image_length) (state_of l) fresh → r ≡ requested p b bad t → n ≡ result_of r.answer
       → (IsImage l → Goes (state_of l).fifo r.state.fifo → after ≡ image_of r.state)
       → Returns (requested p b bad (state_of l)) n after
   request_made p b bad t r n after e g a w =
@@ -265,36 +265,36 @@ module _ (l : List ℕ) (o : IsImage l) where
       replied _ _ _ _ (pick_false _ _ _ k) (record { number = refl; image = start.image })
 
   pub reselection_ignored_lem : (lines : ℕ) (t : State) (r : Bool) (n : ℕ) → t ≡ pick (eqb (length l) image_length) (state_of l) fresh
-      → r ≡ qualifies lines t → r ≡ false → n ≡ result ReselectionIgnored → Returns (reselected lines (state_of l)) n l
+      → r ≡ qualifies lines t → r ≡ false → n ≡ result_of ReselectionIgnored → Returns (reselected lines (state_of l)) n l
   unfolding reselected
   reselection_ignored_lem lines t r n e f h m =
       let k : qualifies lines (state_of l) ≡ false = sym (ap (qualifies lines) (state_is l t o e)) ∙ sym f ∙ h in
       replied _ _ _ _ (pick_false _ _ _ k) (record { number = m; image = start.image })
 
-  pub full_still : (b n : ℕ) → takes_data (state_of l) ≡ true → has_room (state_of l).fifo ≡ false → n ≡ result Held
+  pub full_still : (b n : ℕ) → takes_data (state_of l) ≡ true → has_room (state_of l).fifo ≡ false → n ≡ result_of Held
       → Returns (requested DataIn b false (state_of l)) n l
   full_still b n d r m = replied _ _ _ _ (in_held (state_of l) d b r) (record { number = m; image = start.image })
 
-  pub empty_still : (b n : ℕ) (bad : Bool) → sends_data (state_of l) ≡ true → is_empty (state_of l).fifo ≡ true → n ≡ result Held
+  pub empty_still : (b n : ℕ) (bad : Bool) → sends_data (state_of l) ≡ true → is_empty (state_of l).fifo ≡ true → n ≡ result_of Held
       → Returns (requested DataOut b bad (state_of l)) n l
   empty_still b n bad d r m = replied _ _ _ _ (out_held (state_of l) d b bad r) (record { number = m; image = start.image })
 
   -- block moves
 
   pub block_written_made : (mark : ℕ) (d : List ℕ) (k n : ℕ) (after : List ℕ) → mark ≡ 1
-      → (k ≡ (block_written d (state_of l)).number) × (after ≡ image_of (block_written d (state_of l)).state) → n ≡ result (Done k)
+      → (k ≡ (block_written d (state_of l)).number) × (after ≡ image_of (block_written d (state_of l)).state) → n ≡ result_of (Done k)
       → ReturnsMoved (pick (is_set mark) (block_written d (state_of l)) (block_read d (state_of l))) n after d
   block_written_made mark d k n after m w a =
       moved_as _ _ _ _ _ (pick_true _ _ _ (eq-eqb mark 1 m))
-      (record { number = a ∙ ap (λ (x : ℕ). result (Done x)) w.0; image = w.1; bytes = sym (written_bytes d (state_of l)) })
+      (record { number = a ∙ ap (λ (x : ℕ). result_of (Done x)) w.0; image = w.1; bytes = sym (written_bytes d (state_of l)) })
 
   pub block_read_made : (mark : ℕ) (d : List ℕ) (k n : ℕ) (after d' : List ℕ) → (mark ≡ 1 → ⊥)
       → (k ≡ (block_read d (state_of l)).number) × (after ≡ image_of (block_read d (state_of l)).state) × (d' ≡ (block_read d (state_of l)).bytes)
-      → n ≡ result (Done k)
+      → n ≡ result_of (Done k)
       → ReturnsMoved (pick (is_set mark) (block_written d (state_of l)) (block_read d (state_of l))) n after d'
   block_read_made mark d k n after d' m w a =
       moved_as _ _ _ _ _ (pick_false _ _ _ (ne_eqb mark 1 m))
-      (record { number = a ∙ ap (λ (x : ℕ). result (Done x)) w.0; image = w.1; bytes = w.2 })
+      (record { number = a ∙ ap (λ (x : ℕ). result_of (Done x)) w.0; image = w.1; bytes = w.2 })
 
 -- which Request it is
 

@@ -15,7 +15,7 @@ use Rattle.chip.specs.Choice.{pick, both}
 use Rattle.chip.specs.Answers.{number, value}
 use Rattle.chip.specs.Calls.{auxiliary}
 use Rattle.chip.specs.Image.{is_image}
-use Rattle.chip.specs.Entries.{AfterEntry, result, entered}
+use Rattle.chip.specs.Entries.{AfterEntry, result_of, entered}
 use Rattle.chip.specs.declared.Answer.{Answer}
 use Rattle.chip.specs.declared.Answer.TheVariants.{Done, Held, OutOfPlace, BadNumber, Blind, CommandIgnored, ReselectionIgnored, NoDataNow, Reported}
 use Rattle.refusals.specs.Promises.{PromiseSettles, Promise, AnswerSettled, NumberAlone, UnlessRefused}
@@ -59,7 +59,7 @@ number_small Reported = lit< tt
 same_parts : (n v m w : ℕ) → n < 256 → m < 256 → n + 256 * v ≡ m + 256 * w → (n ≡ m) × (v ≡ w)
 same_parts n v m w h k e = omega arith
 
-pub answer_settled : AnswerSettled result
+pub answer_settled : AnswerSettled result_of
 answer_settled a b e =
     let p = same_parts (number a) (value a) (number b) (value b) (number_small a) (number_small b) e in
     sym (answer_back a) ∙ rw (p.0, p.1) (answer_back b)
