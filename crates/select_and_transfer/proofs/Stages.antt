@@ -1,5 +1,5 @@
 -- The stage that a phase register stands for never asks for a command byte beyond the twelfth.
--- sendable: of a phase, and stage-sendable: of a state. size_small: no command is longer than 12.
+-- sendable: of a phase, and stage_sendable: of a state. size_small: no command is longer than 12.
 use mathlib.Core.Bool.{Bool}
 use Prim.Native.Nat.{ℕ, ◌-◌, ◌≤◌}
 use native.Mathlib.Omega.{arith}
