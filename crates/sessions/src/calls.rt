@@ -87,10 +87,8 @@ pub(crate) fn times(line: &[u8]) -> u32
 // Rising bytes in registers that follow each other: the pointer steps by itself.
 fn written(address: u32, byte: u32, n: u32, image: &mut [u8]) -> u32 {
     let mut result = am33c93a_pointer(image, 1, address);
-    let mut i: u32 = 0;
-    while i < n {
+    for i in 0..n {
         result = am33c93a_register(image, 1, std::num::wrapping_add_u32(byte, i));
-        i += 1;
     }
     result
 }
@@ -164,12 +162,10 @@ fn within(n: u32, most: usize) -> usize
 
 // Bytes that rise by one from the first on.
 fn fill(data: &mut [u8], first: u32) {
-    let mut i = 0;
     let mut byte = (first % 256) as u8;
-    while i < data.len() {
-        data[i] = byte;
+    for place in data.iter_mut() {
+        *place = byte;
         byte = std::num::wrapping_add_u8(byte, 1);
-        i += 1;
     }
 }
 

@@ -10,10 +10,12 @@
 ghost use Rattle.std.specs.Prelude.{◌≤◌, length};
 
 use crate::names::say;
+use crate::output::Output;
 use crate::{calls, codes, names, tables, words};
 use controller::{am33c93a_auxiliary, am33c93a_fresh};
+use std::io::Write;
 
-#[derive(Drop)]
+#[derive(Clone, Copy)]
 struct Tally {
     session: u8,
     calls: u64,
@@ -39,12 +41,10 @@ fn requests(line: &[u8], n: u32, image: &mut [u8]) -> Series {
     let start = calls::requested(line, 0, image);
     let mut last = start;
     let mut rises = true;
-    let mut i: u32 = 1;
-    while i < n {
+    for i in 1..n {
         let result = calls::requested(line, i, image);
         rises = follows(rises, last, result);
         last = result;
-        i += 1;
     }
     Series { start, last, rises }
 }
@@ -61,16 +61,10 @@ fn expected(rest: &[u8]) -> u32 {
     }
 }
 
-fn say_bytes(data: &[u8], n: u32) {
-    let mut i = 0;
-    let mut k: u32 = 0;
-    while i < data.len() {
-        if k < n {
-            say(b" ");
-            names::say_byte(words::wide(data[i]));
-            k += 1;
-        }
-        i += 1;
+fn say_bytes<W: Write + Drop>(data: &[u8], n: u32, out: &mut Output<W>) {
+    for byte in data.iter().take(n as usize) {
+        say(b" ", out);
+        names::say_byte(words::wide(*byte), out);
     }
 }
 
@@ -78,63 +72,74 @@ fn say_bytes(data: &[u8], n: u32) {
 const FORMS: [u8; 20] = *b"-bab--c-nni-n---b-l-";
 
 // before is what auxiliary status showed before the call.
-fn say_value(verb: u32, value: u32, before: u32, data: &[u8]) {
+fn say_value<W: Write + Drop>(
+    verb: u32,
+    value: u32,
+    before: u32,
+    data: &[u8],
+    out: &mut Output<W>,
+) {
     let form = FORMS[(verb % 20) as usize];
     if form != b'-' {
-        say(b" ");
+        say(b" ", out);
     }
     match form {
-        b'b' => names::say_byte(value),
-        b'n' => names::say_decimal(value),
+        b'b' => names::say_byte(value, out),
+        b'n' => names::say_decimal(value, out),
         b'c' => {
-            names::say_code(value);
-            say(b" (auxiliary was ");
-            names::say_byte(before);
-            say(b")");
+            names::say_code(value, out);
+            say(b" (auxiliary was ", out);
+            names::say_byte(before, out);
+            say(b")", out);
         }
         b'a' => {
-            names::say_byte(value);
-            names::say_auxiliary(value);
+            names::say_byte(value, out);
+            names::say_auxiliary(value, out);
         }
         b'i' => {
-            names::say_decimal(value);
-            say(b" ");
-            say_bytes(data, value);
+            names::say_decimal(value, out);
+            say(b" ", out);
+            say_bytes(data, value, out);
         }
-        b'l' => names::say_lines(value),
+        b'l' => names::say_lines(value, out),
         _ => {}
     }
 }
 
-fn say_result(verb: u32, res: u32, before: u32, data: &[u8]) {
+fn say_result<W: Write + Drop>(verb: u32, res: u32, before: u32, data: &[u8], out: &mut Output<W>) {
     let number = res % 256;
-    names::say_answer(number);
+    names::say_answer(number, out);
     match number {
-        0 => say_value(verb, res / 256, before, data),
+        0 => say_value(verb, res / 256, before, data, out),
         4 | 7 => {
-            say(b" ");
-            names::say_byte(res / 256);
+            say(b" ", out);
+            names::say_byte(res / 256, out);
         }
         _ => {}
     }
 }
 
 // The call as the script has it, in the column of its side.
-fn say_call(verb: u32, call: &[u8]) {
+fn say_call<W: Write + Drop>(verb: u32, call: &[u8], out: &mut Output<W>) {
     if verb == calls::CODE {
-        say(b"; code: ");
+        say(b"; code: ", out);
         return;
     }
     if calls::is_bus(verb) {
-        say(b"\n  disk  ");
+        say(b"\n  disk  ", out);
     } else {
-        say(b"\n  host  ");
+        say(b"\n  host  ", out);
     }
-    say(call);
-    names::say_gap(call.len());
+    say(call, out);
+    names::say_gap(call.len(), out);
 }
 
-fn compared(is_right: bool, rest: &[u8], tally: Tally) -> Tally {
+fn compared<W: Write + Drop>(
+    is_right: bool,
+    rest: &[u8],
+    tally: Tally,
+    out: &mut Output<W>,
+) -> Tally {
     let calls = std::num::wrapping_add_u64(tally.calls, 1);
     if is_right {
         return Tally {
@@ -143,8 +148,8 @@ fn compared(is_right: bool, rest: &[u8], tally: Tally) -> Tally {
             wrong: tally.wrong,
         };
     }
-    say(b"   EXPECTED");
-    say(rest);
+    say(b"   EXPECTED", out);
+    say(rest, out);
     Tally {
         session: tally.session,
         calls,
@@ -152,24 +157,25 @@ fn compared(is_right: bool, rest: &[u8], tally: Tally) -> Tally {
     }
 }
 
-fn call(
+fn call<W: Write + Drop>(
     call: &[u8],
     rest: &[u8],
     image: &mut [u8],
     data: &mut [u8],
     first: &mut [u8],
     tally: Tally,
+    out: &mut Output<W>,
 ) -> Tally {
     let verb = calls::verb_of(call);
     let before = am33c93a_auxiliary(image) / 256;
-    say_call(verb, call);
+    say_call(verb, call, out);
     if is_series(verb, call) {
-        return call_series(call, rest, image, tally);
+        return call_series(call, rest, image, tally, out);
     }
     let result = calls::made(verb, call, image, data);
-    say_result(verb, result, before, data);
+    say_result(verb, result, before, data, out);
     note(verb, before, result / 256, first, tally);
-    compared(result == expected(rest), rest, tally)
+    compared(result == expected(rest), rest, tally, out)
 }
 
 fn is_series(verb: u32, call: &[u8]) -> bool {
@@ -188,17 +194,23 @@ fn note(verb: u32, before: u32, code: u32, first: &mut [u8], tally: Tally) {
     }
 }
 
-fn call_series(call: &[u8], rest: &[u8], image: &mut [u8], tally: Tally) -> Tally {
+fn call_series<W: Write + Drop>(
+    call: &[u8],
+    rest: &[u8],
+    image: &mut [u8],
+    tally: Tally,
+    out: &mut Output<W>,
+) -> Tally {
     let run = requests(call, calls::times(call), image);
-    names::say_answer(run.start % 256);
-    say(b" ");
-    names::say_byte(run.start / 256);
-    say(b" to ");
-    names::say_byte(run.last / 256);
+    names::say_answer(run.start % 256, out);
+    say(b" ", out);
+    names::say_byte(run.start / 256, out);
+    say(b" to ", out);
+    names::say_byte(run.last / 256, out);
     if run.rises {
-        return compared(run.start == expected(rest), rest, tally);
+        return compared(run.start == expected(rest), rest, tally, out);
     }
-    compared(false, rest, tally)
+    compared(false, rest, tally, out)
 }
 
 // Without blanks at its end.
@@ -215,9 +227,14 @@ fn trimmed(text: &[u8]) -> usize
     0
 }
 
-fn begun(line: &[u8], image: &mut [u8], tally: Tally) -> Tally {
-    say(b"\n\n");
-    say(line);
+fn begun<W: Write + Drop>(
+    line: &[u8],
+    image: &mut [u8],
+    tally: Tally,
+    out: &mut Output<W>,
+) -> Tally {
+    say(b"\n\n", out);
+    say(line, out);
     am33c93a_fresh(image);
     Tally {
         session: (words::operand(line, 1) % 256) as u8,
@@ -226,29 +243,42 @@ fn begun(line: &[u8], image: &mut [u8], tally: Tally) -> Tally {
     }
 }
 
-fn remarked(line: &[u8], tally: Tally) -> Tally {
-    say(b"\n  ");
-    say(line);
+fn remarked<W: Write + Drop>(line: &[u8], tally: Tally, out: &mut Output<W>) -> Tally {
+    say(b"\n  ", out);
+    say(line, out);
     tally
 }
 
-fn step(line: &[u8], image: &mut [u8], data: &mut [u8], first: &mut [u8], tally: Tally) -> Tally {
+fn step<W: Write + Drop>(
+    line: &[u8],
+    image: &mut [u8],
+    data: &mut [u8],
+    first: &mut [u8],
+    tally: Tally,
+    out: &mut Output<W>,
+) -> Tally {
     if line.len() == 0 {
         return tally;
     }
     if line[0] == b'#' {
-        return remarked(line, tally);
+        return remarked(line, tally, out);
     }
     if words::is(line, 0, b"session") {
-        return begun(line, image, tally);
+        return begun(line, image, tally, out);
     }
     let mark = words::place_of(line, 0, b'=');
     let end = trimmed(&line[0..mark]);
     let rest = words::after(line, mark);
-    call(&line[0..end], &line[rest..], image, data, first, tally)
+    call(&line[0..end], &line[rest..], image, data, first, tally, out)
 }
 
-fn all_lines(text: &[u8], image: &mut [u8], data: &mut [u8], first: &mut [u8]) -> Tally {
+fn all_lines<W: Write + Drop>(
+    text: &[u8],
+    image: &mut [u8],
+    data: &mut [u8],
+    first: &mut [u8],
+    out: &mut Output<W>,
+) -> Tally {
     let mut tally = Tally {
         session: 0,
         calls: 0,
@@ -257,7 +287,7 @@ fn all_lines(text: &[u8], image: &mut [u8], data: &mut [u8], first: &mut [u8]) -
     let mut at = 0;
     while at < text.len() {
         let end = words::place_of(text, at, b'\n');
-        tally = step(&text[at..end], image, data, first, tally);
+        tally = step(&text[at..end], image, data, first, tally, out);
         if end == text.len() {
             return tally;
         }
@@ -266,25 +296,28 @@ fn all_lines(text: &[u8], image: &mut [u8], data: &mut [u8], first: &mut [u8]) -
     tally
 }
 
-pub(crate) fn run(text: &[u8]) {
+pub(crate) fn run<W: Write + Drop>(text: &[u8], out: &mut Output<W>) {
     let mut image = [0u8; 54];
     let mut data = [0u8; 32];
     let mut first = [0u8; 256];
-    say(b"Sessions of the controller");
-    let tally = all_lines(text, &mut image, &mut data, &mut first);
-    finish(&first, tally);
+    say(b"Sessions of the controller", out);
+    let tally = all_lines(text, &mut image, &mut data, &mut first, out);
+    finish(&first, tally, out);
 }
 
-fn finish(first: &[u8], tally: Tally) {
-    say(b"\n\nEvery status code, and the session in which a driver first reads it:\n");
-    let read = codes::say_all(first);
-    say(b"\n");
-    io::print_decimal(1, tally.calls);
-    say(b" lines, ");
-    io::print_decimal(1, tally.wrong);
-    say(b" answered otherwise than the papers say; ");
-    names::say_decimal(read);
-    say(b" of ");
-    names::say_decimal(tables::CODE_ROWS);
-    say(b" status codes read\n");
+fn finish<W: Write + Drop>(first: &[u8], tally: Tally, out: &mut Output<W>) {
+    say(
+        b"\n\nEvery status code, and the session in which a driver first reads it:\n",
+        out,
+    );
+    let read = codes::say_all(first, out);
+    say(b"\n", out);
+    out.put_decimal(tally.calls);
+    say(b" lines, ", out);
+    out.put_decimal(tally.wrong);
+    say(b" answered otherwise than the papers say; ", out);
+    names::say_decimal(read, out);
+    say(b" of ", out);
+    names::say_decimal(tables::CODE_ROWS, out);
+    say(b" status codes read\n", out);
 }

@@ -115,11 +115,9 @@ pub(crate) fn row(table: &[u8], k: u32) -> Part
 {
     let mut from = 0;
     let mut to = words::place_of(table, 0, b'\n');
-    let mut n = 0;
-    while n < k {
+    for _ in 0..k {
         from = words::after(table, to);
         to = words::place_of(table, from, b'\n');
-        n += 1;
     }
     Part { from, to }
 }
@@ -128,19 +126,17 @@ fn is_row(table: &[u8], k: u32, word: &[u8]) -> bool {
     let r = row(table, k);
     let from = r.from;
     let to = r.to;
-    check::same(&table[from..to], word)
+    &table[from..to] == word
 }
 
 // Which of the first n rows is this word; n where none is.
 pub(crate) fn row_of(table: &[u8], n: u32, word: &[u8]) -> u32
     ensures { result ≤ n }
 {
-    let mut k = 0;
-    while k < n {
+    for k in 0..n {
         if is_row(table, k, word) {
             return k;
         }
-        k += 1;
     }
     n
 }
@@ -165,12 +161,10 @@ pub(crate) fn code_at(k: u32) -> u32 {
 
 // The row of CODES about this code.
 pub(crate) fn row_of_code(code: u32) -> u32 {
-    let mut k = 0;
-    while k < CODE_ROWS {
+    for k in 0..CODE_ROWS {
         if code_at(k) == code {
             return k;
         }
-        k += 1;
     }
     CODE_ROWS
 }

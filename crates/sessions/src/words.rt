@@ -12,12 +12,10 @@ pub(crate) fn place_of(text: &[u8], from: usize, b: u8) -> usize
     requires { from ≤ length text.now }
     ensures { (from ≤ result) × (result ≤ length text.now) }
 {
-    let mut i = from;
-    while i < text.len() {
+    for i in from..text.len() {
         if text[i] == b {
             return i;
         }
-        i += 1;
     }
     text.len()
 }
@@ -27,12 +25,10 @@ fn past(line: &[u8], from: usize, blank: bool) -> usize
     requires { from ≤ length line.now }
     ensures { (from ≤ result) × (result ≤ length line.now) }
 {
-    let mut i = from;
-    while i < line.len() {
+    for i in from..line.len() {
         if (line[i] == b' ') == blank {
             return i;
         }
-        i += 1;
     }
     line.len()
 }
@@ -43,11 +39,9 @@ pub(crate) fn word(line: &[u8], k: u32) -> Part
 {
     let mut from = past(line, 0, false);
     let mut to = past(line, from, true);
-    let mut n = 0;
-    while n < k {
+    for _ in 0..k {
         from = past(line, to, false);
         to = past(line, from, true);
-        n += 1;
     }
     Part { from, to }
 }
@@ -57,7 +51,7 @@ pub(crate) fn is(line: &[u8], k: u32, name: &[u8]) -> bool {
     let w = word(line, k);
     let from = w.from;
     let to = w.to;
-    check::same(&line[from..to], name)
+    &line[from..to] == name
 }
 
 // The place after `at`, or the end.
@@ -101,10 +95,8 @@ fn digits(word: &[u8], is_hex: bool) -> u32
     ensures { result < 268435456 }
 {
     let mut n: u32 = 0;
-    let mut i = 0;
-    while i < word.len() {
-        n = with_digit(n, is_hex, word[i]);
-        i += 1;
+    for b in word {
+        n = with_digit(n, is_hex, *b);
     }
     n
 }
