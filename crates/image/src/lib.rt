@@ -128,9 +128,9 @@ pub fn write(s: State, image: &mut [u8])
 // The state that a step led to from the image's own, where it brought the FIFO one byte at most: of its places one is stored.
 #[tactic(auto, unfolding(chip::specs::Choice::pick))]
 pub fn write_on(s: State, image: &mut [u8])
-    ensures image_after { image.new ≡ pick (eqb (length image.old) image_length)
+    ensures stored { image.new ≡ pick (eqb (length image.old) image_length)
         (take fifo_place (image_of s) ++ ends_over s.fifo (drop fifo_place image.old)) image.old }
-    ensures image_after_2 { IsImage image.old → Goes (state_of image.old).fifo s.fifo → image.new ≡ image_of s }
+    ensures goes_on { IsImage image.old → Goes (state_of image.old).fifo s.fifo → image.new ≡ image_of s }
 {
     let q = s.fifo;
     if image.len() == LENGTH {

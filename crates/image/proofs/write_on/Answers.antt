@@ -18,8 +18,8 @@ stored s l y z h hy e f =
     f ∙ taken _ _ (eq-eqb _ _ hy)
     ∙ ap₂ (λ (a b : List ℕ). a ++ ends_over s.fifo b) (before_end s h y _ e) (after_others s h y _ e)
 
-pub returns-then-image-eq-LENGTH-clause-image_after : goal.returns-then-image-eq-LENGTH-clause-image_after
-returns-then-image-eq-LENGTH-clause-image_after c =
+pub returns-then-image-eq-LENGTH-clause-stored : goal.returns-then-image-eq-LENGTH-clause-stored
+returns-then-image-eq-LENGTH-clause-stored c =
     let s = c.args.s in
     let h = c.if-image-eq-LENGTH.true in
     let y = c.put_others.new.image in
@@ -27,13 +27,13 @@ returns-then-image-eq-LENGTH-clause-image_after c =
     let hy : length y ≡ image_length = omega (arith, h, c.put_others.auto.image) in
     stored s c.args.image.now y _ cdb_long hy c.put_others.ensures c.ends.ensures ∙ sym (taken _ _ (eq-eqb _ _ h))
 
-pub returns-then-image-eq-LENGTH-clause-image_after_2 : goal.returns-then-image-eq-LENGTH-clause-image_after_2
-returns-then-image-eq-LENGTH-clause-image_after_2 c =
+pub returns-then-image-eq-LENGTH-clause-goes_on : goal.returns-then-image-eq-LENGTH-clause-goes_on
+returns-then-image-eq-LENGTH-clause-goes_on c =
     let s = c.args.s in
     let y = c.put_others.new.image in
     let cdb_long : length s.registers.descriptor.cdb ≡ 12 = search rules in
     let hy : length y ≡ image_length = omega (arith, c.if-image-eq-LENGTH.true, c.put_others.auto.image) in
     λ o g. stored s c.args.image.now y _ cdb_long hy c.put_others.ensures c.ends.ensures ∙ went_on _ s cdb_long o g
 
-pub returns-else-image-eq-LENGTH-clause-image_after_2 : goal.returns-else-image-eq-LENGTH-clause-image_after_2
-returns-else-image-eq-LENGTH-clause-image_after_2 c = λ o g. absurd (c.if-image-eq-LENGTH.false (valid _ o.valid).long)
+pub returns-else-image-eq-LENGTH-clause-goes_on : goal.returns-else-image-eq-LENGTH-clause-goes_on
+returns-else-image-eq-LENGTH-clause-goes_on c = λ o g. absurd (c.if-image-eq-LENGTH.false (valid _ o.valid).long)
