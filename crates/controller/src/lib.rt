@@ -17,15 +17,13 @@ use state::fresh;
 
 const BAD_NUMBER: u32 = 3;
 
-#[unsafe(no_mangle)]
-pub extern "C" fn am33c93a_image_length() -> u32
+pub fn am33c93a_image_length() -> u32
     ensures { result ≡ image_length }
 {
     image::LENGTH as u32
 }
 
-#[unsafe(no_mangle)]
-pub extern "C" fn am33c93a_fresh(image: &mut [u8]) -> u32
+pub fn am33c93a_fresh(image: &mut [u8]) -> u32
     ensures { (result ≡ (fresh_entered image.old).result) × (image.new ≡ (fresh_entered image.old).image) }
 {
     if image.len() == image::LENGTH {
@@ -36,8 +34,7 @@ pub extern "C" fn am33c93a_fresh(image: &mut [u8]) -> u32
 }
 
 #[tactic(auto, unfolding(chip::specs::Calls::is_good, chip::specs::Calls::carried))]
-#[unsafe(no_mangle)]
-pub extern "C" fn am33c93a_pointer(image: &mut [u8], mark: u32, byte: u32) -> u32
+pub fn am33c93a_pointer(image: &mut [u8], mark: u32, byte: u32) -> u32
     ensures { (result ≡ (entered (Calls.pointer mark byte) image.old).result)
         × (image.new ≡ (entered (Calls.pointer mark byte) image.old).image) }
 {
@@ -54,8 +51,7 @@ pub extern "C" fn am33c93a_pointer(image: &mut [u8], mark: u32, byte: u32) -> u3
 }
 
 #[tactic(auto, unfolding(chip::specs::Calls::is_good, chip::specs::Calls::carried))]
-#[unsafe(no_mangle)]
-pub extern "C" fn am33c93a_auxiliary(image: &mut [u8]) -> u32
+pub fn am33c93a_auxiliary(image: &mut [u8]) -> u32
     ensures { (result ≡ (entered Calls.auxiliary image.old).result)
         × (image.new ≡ (entered Calls.auxiliary image.old).image) }
 {
@@ -66,8 +62,7 @@ pub extern "C" fn am33c93a_auxiliary(image: &mut [u8]) -> u32
 }
 
 #[tactic(auto, unfolding(chip::specs::Calls::is_good, chip::specs::Calls::carried))]
-#[unsafe(no_mangle)]
-pub extern "C" fn am33c93a_register(image: &mut [u8], mark: u32, byte: u32) -> u32
+pub fn am33c93a_register(image: &mut [u8], mark: u32, byte: u32) -> u32
     ensures { (result ≡ (entered (Calls.register mark byte) image.old).result)
         × (image.new ≡ (entered (Calls.register mark byte) image.old).image) }
 {
@@ -86,8 +81,7 @@ pub extern "C" fn am33c93a_register(image: &mut [u8], mark: u32, byte: u32) -> u
     BAD_NUMBER
 }
 
-#[unsafe(no_mangle)]
-pub extern "C" fn am33c93a_block(image: &mut [u8], mark: u32, bytes: &mut [u8]) -> u32
+pub fn am33c93a_block(image: &mut [u8], mark: u32, bytes: &mut [u8]) -> u32
     ensures { (result ≡ (entered (Calls.block mark bytes.old) image.old).result)
         × (image.new ≡ (entered (Calls.block mark bytes.old) image.old).image)
         × (bytes.new ≡ (entered (Calls.block mark bytes.old) image.old).lent) }
@@ -102,8 +96,7 @@ pub extern "C" fn am33c93a_block(image: &mut [u8], mark: u32, bytes: &mut [u8]) 
 }
 
 #[tactic(auto, unfolding(chip::specs::Calls::is_good, chip::specs::Calls::carried))]
-#[unsafe(no_mangle)]
-pub extern "C" fn am33c93a_time(image: &mut [u8], units: u32) -> u32
+pub fn am33c93a_time(image: &mut [u8], units: u32) -> u32
     ensures { (result ≡ (entered (Calls.time units) image.old).result)
         × (image.new ≡ (entered (Calls.time units) image.old).image) }
 {
@@ -117,8 +110,7 @@ pub extern "C" fn am33c93a_time(image: &mut [u8], units: u32) -> u32
 }
 
 #[tactic(auto, unfolding(chip::specs::Calls::is_good, chip::specs::Calls::carried))]
-#[unsafe(no_mangle)]
-pub extern "C" fn am33c93a_answer(image: &mut [u8]) -> u32
+pub fn am33c93a_answer(image: &mut [u8]) -> u32
     ensures { (result ≡ (entered Calls.answer image.old).result)
         × (image.new ≡ (entered Calls.answer image.old).image) }
 {
@@ -131,8 +123,7 @@ pub extern "C" fn am33c93a_answer(image: &mut [u8]) -> u32
 }
 
 #[tactic(auto, unfolding(chip::specs::Calls::is_good, chip::specs::Calls::carried))]
-#[unsafe(no_mangle)]
-pub extern "C" fn am33c93a_reselection(image: &mut [u8], lines: u32) -> u32
+pub fn am33c93a_reselection(image: &mut [u8], lines: u32) -> u32
     ensures { (result ≡ (entered (Calls.reselection lines) image.old).result)
         × (image.new ≡ (entered (Calls.reselection lines) image.old).image) }
 {
@@ -146,8 +137,7 @@ pub extern "C" fn am33c93a_reselection(image: &mut [u8], lines: u32) -> u32
 }
 
 #[tactic(auto, unfolding(chip::specs::Calls::is_good, chip::specs::Calls::carried))]
-#[unsafe(no_mangle)]
-pub extern "C" fn am33c93a_request(image: &mut [u8], phase: u32, byte: u32, parity: u32) -> u32
+pub fn am33c93a_request(image: &mut [u8], phase: u32, byte: u32, parity: u32) -> u32
     ensures { (result ≡ (entered (Calls.request phase byte parity) image.old).result)
         × (image.new ≡ (entered (Calls.request phase byte parity) image.old).image) }
 {
@@ -167,8 +157,7 @@ pub extern "C" fn am33c93a_request(image: &mut [u8], phase: u32, byte: u32, pari
 }
 
 #[tactic(auto, unfolding(chip::specs::Calls::is_good, chip::specs::Calls::carried))]
-#[unsafe(no_mangle)]
-pub extern "C" fn am33c93a_free(image: &mut [u8]) -> u32
+pub fn am33c93a_free(image: &mut [u8]) -> u32
     ensures { (result ≡ (entered Calls.free image.old).result)
         × (image.new ≡ (entered Calls.free image.old).image) }
 {
@@ -180,8 +169,7 @@ pub extern "C" fn am33c93a_free(image: &mut [u8]) -> u32
     BAD_NUMBER
 }
 
-#[unsafe(no_mangle)]
-pub extern "C" fn am33c93a_lines(image: &[u8]) -> u32
+pub fn am33c93a_lines(image: &[u8]) -> u32
     ensures { result ≡ lines_entered image.now }
 {
     let reading = image::read(image);
