@@ -3,7 +3,7 @@
 --   both_refused    every call on them is Bad number, and nothing changes: a Reset and a block move too ..
 --   both_dark       .. and the look at the lines
 use mathlib.Core.Path.{◌≡◌, sym, ap, ◌∙◌}
-use mathlib.Core.Bool.{true, false, true≢false}
+use mathlib.Core.Bool.{false, true≢false}
 use mathlib.Core.List.{List}
 use Prim.Native.Nat.{ℕ}
 use lib.Dec.{eqb}

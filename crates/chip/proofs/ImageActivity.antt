@@ -3,8 +3,8 @@
 --   activity_valid  its bytes pass the test
 --   pending_kept code_kept running_kept   from bytes that pass the test to their activity and back
 --   no_int_running  bytes that say INT and a running command do not pass
-use mathlib.Core.Path.{◌≡◌, refl, sym, ◌∙◌}
-use mathlib.Core.Bool.{Bool, true, false, not, true≢false, false≢true}
+use mathlib.Core.Path.{◌≡◌, refl, sym}
+use mathlib.Core.Bool.{Bool, true, false, true≢false, false≢true}
 use Prim.Native.Nat.{ℕ, zero, suc, ◌<◌}
 use native.Mathlib.Omega.{arith}
 use lib.Dec.{eqb, ltb}
