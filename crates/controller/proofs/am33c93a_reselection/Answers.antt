@@ -1,0 +1,18 @@
+-- Lines that are out of range and bytes that are no image are refused; else the call is made in the image.
+use Rattle.std.proofs.Common.{sym, refl, le-ltb, lt-ltb}
+use Rattle.chip.specs.Calls as Calls
+use Rattle.chip.specs.Calls.{is_good, carried}
+use Rattle.controller.proofs.Entry.{entered_made, not_standing, refused_operand}
+use Rattle.controller.proofs.am33c93a_reselection.Goals as goal
+
+pub returns-then-is_image : goal.returns-then-is_image
+unfolding is_good carried
+returns-then-is_image c =
+    entered_made (Calls.reselection _) _ _ _ _ (sym c.if-is_image.ensures.0) (lt-ltb _ _ c.if-lines-lt256.true) refl c.reselection.ensures
+
+pub returns-then-lines-lt256 : goal.returns-then-lines-lt256
+returns-then-lines-lt256 c = not_standing (Calls.reselection _) _ (sym c.if-is_image.ensures.0)
+
+pub returns : goal.returns
+unfolding is_good
+returns c = refused_operand (Calls.reselection _) _ (le-ltb _ _ c.if-lines-lt256.false)
