@@ -1,5 +1,5 @@
 # The two commands of README.md are `make demo` and `make test`; both do all their set-up themselves.
-.PHONY: demo test outside targets write-targets proofs lib native install bench speed clean FORCE
+.PHONY: demo test outside targets write-targets lib native install bench speed clean FORCE
 
 CC ?= gcc
 CFLAGS = -O2 -std=c11 -Wall -Wextra -Werror -Iinclude
@@ -10,7 +10,7 @@ CARGO = cargo --offline
 # All of cargo's output goes below build/, by the absolute name that cargo wants from every folder.
 CARGO_OUT = $(CURDIR)/build/cargo
 LENT = AM33C93A_LIB_DIR=$(CURDIR)/$(dir $(NATIVE))
-CODE = crates.txt $(shell find crates -name '*.rt' -o -name '*.antt')
+CODE = crates.txt $(shell find crates/*/src crates/*/specs crates/*/proofs -name '*.rt' -o -name '*.antt')
 
 # Where `make install` puts header, libraries and am33c93a.pc; DESTDIR stands before it and into no file.
 PREFIX ?= /usr/local
@@ -27,11 +27,11 @@ demo: build/board
 	@build/board
 	@echo "With a host that works as Linux's driver does: build/board --driver linux"
 
-# The static libraries: one for each target of tools/targets, and the one for x86-64 that rt itself builds.
+# The static libraries: one for each target of tools/targets, and the one for any x86-64 that rt itself builds.
 lib: $(patsubst tools/targets/%,build/%/libam33c93a.a,$(wildcard tools/targets/*))
-	@rt staticlib controller > build/staticlib.log 2>&1 || { cat build/staticlib.log; exit 1; }
 	@mkdir -p build/x86-64
-	@cp target/staticlib/libcontroller.a build/x86-64/libam33c93a.a
+	@cd crates/controller_c && rt lib --cpu x86-64 > $(CURDIR)/build/staticlib.log 2>&1 || { cat $(CURDIR)/build/staticlib.log; exit 1; }
+	@cp crates/controller_c/out/libcontroller_c.a build/x86-64/libam33c93a.a
 	@echo build/x86-64/libam33c93a.a
 
 native: $(NATIVE)
@@ -54,11 +54,10 @@ build/module.ll: tools/module $(CODE)
 build/%/libam33c93a.a: build/module.ll tools/native-lib tools/targets/% include/am33c93a.h
 	@tools/native-lib $*
 
-# Everything that is checked: the layout, all proofs and must-fail edits from nothing, then what runs outside the prover.
+# Everything that is checked: all proofs, must-fail edits and the layout, by rt ci; then what runs outside the prover.
 # What rt ci printed comes last, so that its closing line 'N passed, 0 failed' is the last one.
 test:
 	@mkdir -p build
-	@rt fmt --check
 	@tests/edits texts
 	@tests/places
 	@rt ci > build/ci.log 2>&1 || { cat build/ci.log; exit 1; }
@@ -91,10 +90,6 @@ targets:
 
 write-targets: targets
 	@tools/put-figures build/targets.md docs/BOARD.md
-
-# The generated proofs of a room, made again by the commands in their heads, and those that it lacks: `make proofs ROOM=bus`.
-proofs:
-	@tools/write-proofs $(ROOM)
 
 build/board: examples/board.c include/am33c93a.h $(NATIVE)
 	@$(CC) $(CFLAGS) -o $@ $< $(NATIVE)
@@ -167,4 +162,4 @@ $(RUST_SIDES): $(wildcard tests/model/src/*.rs tests/model/Cargo.* bench/rust_si
 FORCE:
 
 clean:
-	rm -rf build target
+	rm -rf build crates/*/out
