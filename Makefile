@@ -60,6 +60,7 @@ test:
 	@mkdir -p build
 	@tests/edits texts
 	@tests/places
+	@touch build/ci.begun
 	@rt ci > build/ci.log 2>&1 || { cat build/ci.log; exit 1; }
 	@tests/edits
 	@$(MAKE) --no-print-directory outside
