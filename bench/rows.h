@@ -19,8 +19,8 @@
 #endif
 #include "plain.h"
 
-/* The bytes of an image that are looked at here, for a library of either form (docs/IMAGE.md). */
-enum { POINTER_AT = 25, HELD_AT = 34, FIRST_AT = 35 };
+/* The bytes of an image that are looked at here (docs/IMAGE.md). */
+enum { POINTER_AT = 25, HELD_AT = 40, FIRST_AT = 41 };
 
 enum { COPIES = 64, MEBIBYTE = 1 << 20, SIXTEEN_MEGABYTES = 16000000 };
 
