@@ -15,7 +15,7 @@ use Rattle.chip.specs.Activity.{is_running, goes_on, is_select_and_transfer}
 use Rattle.chip.specs.TransferInfo as I
 use Rattle.chip.specs.SelectAndTransfer as X
 use Rattle.chip.specs.Commands.{is_valid, aborted, selecting, select_and_transfer_begun, carried_out, accepted}
-use Rattle.chip.specs.Connections.{is_connected, is_selecting}
+use Rattle.chip.specs.Connections.{is_connected}
 use Rattle.chip.specs.Registers as R
 use Rattle.chip.specs.Events as E
 use Rattle.chip.specs.Calls.{Call, Outcome, time, answer, reselection, free, is_good, plain, carried, step}
@@ -26,7 +26,7 @@ use Rattle.chip.specs.declared.Connection.TheVariants.{Disconnected, Selecting, 
 use Rattle.chip.specs.declared.Command.{Command}
 use Rattle.chip.proofs.Cases.{by_pick, by_case, both_first, both_second, taken, passed_over}
 use Rattle.unread.specs.Status.{is_command, is_reset, is_select_code, is_disconnect}
-use Rattle.unread.specs.Because.{Quiet, byte}
+use Rattle.unread.specs.Because.{Quiet}
 use Rattle.unread.proofs.Choosing.{clash}
 use Rattle.unread.proofs.Host.{each_select}
 use Rattle.unread.proofs.Told.{good_step, Issued, issued}

@@ -27,7 +27,6 @@ use Rattle.unread.specs.Ending.{is_event, Untouched}
 use Rattle.unread.proofs.Choosing.{clash}
 use Rattle.unread.proofs.Pendings.{int_by, end_by, quiet_of}
 use Rattle.unread.proofs.Rows.{selecting_now}
-use Rattle.chip.specs.Activity.{goes_on}
 use Rattle.unread.proofs.Told.{good_step}
 use Rattle.unread.proofs.Ending.{Refuses, refuses, refuses_bad}
 use Rattle.belongs.specs.StillBus.{is_pending}

@@ -11,7 +11,7 @@ use Prim.Native.Nat.{ℕ, ◌+◌, ◌≤◌}
 use native.Mathlib.Omega.{arith}
 use lib.Dec.{eqb}
 use borrow.Author.Tests.{eq-eqb}
-use Rattle.chip.specs.Choice.{pick, both, either}
+use Rattle.chip.specs.Choice.{pick, both}
 use Rattle.chip.specs.Phases.{phase_of}
 use Rattle.chip.specs.Lines.{code_of}
 use Rattle.chip.specs.State.{fresh}

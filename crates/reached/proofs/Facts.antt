@@ -2,13 +2,13 @@
 --   facts           of every state that has the facts of `Sound`
 --   reached_facts   of every state reached
 --   on_goes         a command with P that runs is a command that runs
-use mathlib.Core.Path.{◌≡◌, refl, sym}
+use mathlib.Core.Path.{◌≡◌, refl}
 use mathlib.Core.Bool.{Bool, true, false, true≢false, false≢true}
 use mathlib.Core.List.{List}
 use Prim.Native.Nat.{ℕ, ◌≤◌}
 use Rattle.chip.specs.Fifo as F
 use Rattle.chip.specs.Count.{left, dbr, dbr_by}
-use Rattle.chip.specs.Choice.{pick, both, either}
+use Rattle.chip.specs.Choice.{pick, both}
 use Rattle.chip.specs.State.{fresh}
 use Rattle.chip.specs.Fifo.{is_empty}
 use Rattle.chip.specs.Interrupts.{bytes_unread}

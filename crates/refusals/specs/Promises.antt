@@ -9,7 +9,7 @@ use Rattle.std.specs.Prelude.{◌≡◌, true, List, ℕ}
 use Rattle.chip.specs.Choice.{both}
 use Rattle.chip.specs.Calls.{Call, is_good}
 use Rattle.chip.specs.Image.{is_image}
-use Rattle.chip.specs.Entries.{AfterEntry, result_of, entered}
+use Rattle.chip.specs.Entries.{AfterEntry, entered}
 use Rattle.chip.specs.declared.Answer.{Answer}
 
 abbrev pub PromiseSettles : (Call → List ℕ → AfterEntry → Type 0) → Type 0

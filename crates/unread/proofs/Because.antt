@@ -15,7 +15,7 @@ use Rattle.chip.specs.Calls.{Call, step}
 use Rattle.chip.specs.declared.State.{State}
 use Rattle.chip.specs.declared.Activity.{Activity}
 use Rattle.chip.specs.declared.Activity.TheVariants as Is
-use Rattle.unread.specs.Status.{Pending, Ending, ReadOut, pending_in, pending, is_reset}
+use Rattle.unread.specs.Status.{Ending, ReadOut, pending_in, pending, is_reset}
 use Rattle.unread.specs.Because as B
 use Rattle.unread.specs.Because.{Quiet, Brings, Begins, BeginsReadOut, ReadsLast, ReadsOut, Because, RaisedBecause, EndingBecause}
 use Rattle.chip.proofs.Cases.{by_test}

@@ -39,7 +39,7 @@ use Rattle.unread.specs.Because.{Quiet, Brings, Offered, LastMessage, is_idle, i
 use Rattle.chip.specs.SelectAndTransfer.{stage}
 use Rattle.chip.proofs.Cases.{by_pick, by_case, by_test, both_first, both_second}
 use Rattle.unread.proofs.Choosing.{clash, not_first}
-use Rattle.unread.proofs.Telling.{summary, Tells, so, ToldReply, reads_out_rest, silent, moves, settles, raises, gone, unless_int, ended, brought, read_out}
+use Rattle.unread.proofs.Telling.{summary, Tells, so, ToldReply, silent, moves, raises, gone, unless_int, ended, brought, read_out}
 use Rattle.unread.proofs.Pendings.{quiet_of, going_open, going_quiet, info_no_transfer}
 use Rattle.chip.proofs.Activities.{transfer_goes_on, info_goes_on}
 use Rattle.chip.proofs.FifoLaws.{push_some}

@@ -26,8 +26,7 @@ use Rattle.chip.specs.Calls.{Call, Outcome, time, answer, reselection, request, 
 use Rattle.chip.specs.declared.State.{State}
 use Rattle.chip.specs.declared.Phase.{Phase}
 use Rattle.chip.specs.declared.Phase.TheVariants.{DataOut, DataIn, CommandOut, StatusIn, UnspecifiedOut, UnspecifiedIn, MessageOut, MessageIn}
-use Rattle.chip.specs.declared.Connection.{Connection}
-use Rattle.chip.specs.declared.Connection.TheVariants.{Disconnected, Selecting, Waiting, Connected}
+use Rattle.chip.specs.declared.Connection.TheVariants.{Disconnected, Selecting, Connected}
 use Rattle.unread.specs.Status.{Ending, pending, is_command, is_reset, is_selection, is_answer}
 use Rattle.unread.specs.Because as B
 use Rattle.unread.specs.Because.{Brings, Begins, ReadsOut, Because, Translates, is_idle}

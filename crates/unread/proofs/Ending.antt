@@ -30,7 +30,7 @@ use Rattle.chip.specs.declared.Activity.{Activity}
 use Rattle.chip.specs.declared.Activity.TheVariants.{Idle, Interrupt, Runs, Ends, ReadOut}
 use Rattle.unread.specs.Status.{is_command, is_reset, is_disconnect}
 use Rattle.unread.specs.Ending.{is_event, is_time, is_refusal, Untouched, is_data_access, EndingIsStill}
-use Rattle.chip.proofs.Cases.{by_pick, by_case, by_test, both_first, both_second, either_first, either_rest, either_second, either_last, taken, passed_over}
+use Rattle.chip.proofs.Cases.{by_pick, by_case, by_test, both_first, both_second, either_first, either_rest, either_second, either_last, passed_over}
 use Rattle.unread.proofs.Choosing.{clash, second_fails, one_or, one_of}
 use Rattle.unread.proofs.Host.{invalid_idle, abort_goes, is_disconnect_lem}
 use Rattle.unread.proofs.Told.{good_step}

@@ -8,7 +8,7 @@ use mathlib.Core.Bool.{true, false}
 use mathlib.Core.List.{List, [], ◌∷◌, ◌++◌}
 use Prim.Native.Nat.{ℕ}
 use Rattle.chip.specs.Choice.{pick, both, either}
-use Rattle.chip.specs.Interrupts.{interrupted, in_ending}
+use Rattle.chip.specs.Interrupts.{interrupted}
 use Rattle.chip.specs.Activity.{is_interrupt, is_ending, without_interrupt}
 use Rattle.chip.specs.Calls.{Call, Outcome, step, run}
 use Rattle.chip.specs.declared.State.{State}

@@ -27,7 +27,7 @@ use Rattle.chip.specs.Activity.{is_running, goes_on, is_select_and_transfer}
 use Rattle.chip.specs.SelectAndTransfer.{resumed, is_resumable, is_early, is_middle, is_at_end}
 use Rattle.chip.specs.Translate.{translated_by, translated}
 use Rattle.chip.specs.Commands.{is_ready, is_valid, is_refused_busy, entry_of, table, aborted, select_and_transfer_begun, carried_out, accepted, commanded, abort_phase}
-use Rattle.chip.specs.Connections.{is_connected, is_waiting, is_selecting}
+use Rattle.chip.specs.Connections.{is_connected, is_waiting}
 use Rattle.chip.specs.Registers as R
 use Rattle.chip.specs.Events as E
 use Rattle.chip.specs.Calls.{Call, Outcome, block, time, answer, reselection, is_good, is_set, plain, step, carried}
@@ -45,7 +45,7 @@ use Rattle.unread.specs.Because.{Quiet, is_off_disk, ReadsLast, byte, slice}
 use Rattle.chip.proofs.Cases.{by_test, taken, passed_over}
 use Rattle.unread.proofs.Choosing.{clash, second_fails, one_of}
 use Rattle.unread.proofs.Telling.{summary}
-use Rattle.unread.proofs.Pendings.{is_end, int_by, end_by, going_quiet}
+use Rattle.unread.proofs.Pendings.{is_end, int_by, end_by}
 use Rattle.chip.proofs.FifoLaws.{some_waits, waits_some, pop_less}
 use Rattle.unread.proofs.Told.{good_step, Issued, issued, Reading, reading}
 use Rattle.unread.proofs.Asked.{seen, shown, Raised, Load, load, Ended, raised_by, ended_by, open_event}
