@@ -2,7 +2,7 @@
 --   HasWaited has_waited   of a list of calls after which a selection runs
 --   all_added      .. and no fewer, where register 02 is not 0
 --   elapsed_grows  one call adds its own units at most, while the selection goes on
---   begins-at-zero a selection begins with none
+--   begins_at_zero a selection begins with none
 use mathlib.Core.Path.{◌≡◌, refl, sym, ap, subst, ◌∙◌}
 use mathlib.Core.Bool.{Bool, true, false}
 use mathlib.Core.List.{List, [], ◌∷◌, ◌++◌}

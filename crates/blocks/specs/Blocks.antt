@@ -1,4 +1,4 @@
--- A run over the FIFO as a block of accesses. proofs/Blocks.antt shows that these are chip's blockRead and block_written, which are made
+-- A run over the FIFO as a block of accesses. proofs/Blocks.antt shows that these are chip's block_read and block_written, which are made
 -- of single accesses.
 use Rattle.std.specs.Prelude.{List, ℕ, eqb}
 use Rattle.chip.specs.Choice.{pick}

@@ -1,6 +1,6 @@
 -- What every C entry comes to, over any call.
 -- served: the image was read, the operands are good, and the reply is the call's: number and image are the entry's.
--- refused-image, refused-operand: Bad number, and the image as it was.
+-- refused_image, refused_operand: Bad number, and the image as it was.
 use Rattle.std.proofs.Common.{◌≡◌, ℕ, ◌*◌, Bool, true, false, eqb, ltb, List, [], length, sym, refl, ap, ◌∙◌}
 use Rattle.chip.proofs.Cases.{both_first}
 use Rattle.chip.specs.Choice.{pick, both}

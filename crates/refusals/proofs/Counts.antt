@@ -1,7 +1,7 @@
 -- The count, step by step.
 --   stands      the count stands where both of its parts do
 --   then        the count stands over two steps
---   one-less    where bytes are left, a state with the lowered count has one byte less
+--   one_less    where bytes are left, a state with the lowered count has one byte less
 --   raise_count, end_count   a raised code and an ending leave the count
 --   no_data     a phase of a kind that Data is not of is not Data
 use mathlib.Core.Path.{◌≡◌, refl, sym, ◌∙◌}

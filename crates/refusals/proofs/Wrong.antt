@@ -1,9 +1,9 @@
 -- The laws refute the wrong steps of specs/Wrong.antt, each at one call and one state. A name says which step falls.
---   RefusalsKeep             blind-clears-falls, no-data-moves-falls, ignored-quietly-falls, held-counts-falls, report-takes-falls
---   KindsKept                holds-everything-falls
---   AuxiliaryIsSilent        auxiliary-clears-falls
---   CountFallsOnlyOnTheBus   nods-at-everything-falls, write-counts-falls
---   BlockIsAccesses          block-invents-falls, block-moves-one-falls
+--   RefusalsKeep             blind_clears_falls, no_data_moves_falls, ignored_quietly_falls, held_counts_falls, report_takes_falls
+--   KindsKept                holds_everything_falls
+--   AuxiliaryIsSilent        auxiliary_clears_falls
+--   CountFallsOnlyOnTheBus   nods_at_everything_falls, write_counts_falls
+--   BlockIsAccesses          block_invents_falls, block_moves_one_falls
 use mathlib.Core.Path.{refl, ap}
 use mathlib.Core.Bool.{true, true≢false, false≢true}
 use mathlib.Core.List.{[], ◌∷◌}

@@ -1,5 +1,5 @@
 // Select-And-Transfer by its phase register: the definitions of chip's specs/SelectAndTransfer.antt. Where a name there begins with
-// selectAndTransfer, the room's own name stands for that: `request` is select_and_transfer_request.
+// select_and_transfer, the room's own name stands for that: `request` is select_and_transfer_request.
 #![tactic(auto)]
 
 pub mod free;

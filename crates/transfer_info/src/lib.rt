@@ -1,4 +1,4 @@
-// Transfer Info, and parity: the definitions of chip's specs/TransferInfo.antt. Where a name there begins with transferInfo, the
+// Transfer Info, and parity: the definitions of chip's specs/TransferInfo.antt. Where a name there begins with transfer_info, the
 // room's own name stands for that: `request` is transfer_info_request.
 #![tactic(auto)]
 

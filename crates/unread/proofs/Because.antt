@@ -2,7 +2,7 @@
 --   raised_because   a call raises a code exactly where the table says so, and that code
 --   ending_because   an ending begins exactly where the table says so, and a read-out
 --   brings_row reads_row because_row   what each row says, the step does
---   Found because_found   what a row finds pending, and brings-quiet of those that end a running command
+--   Found because_found   what a row finds pending, and brings_quiet of those that end a running command
 use mathlib.Core.Path.{◌≡◌, refl, sym, ap, ◌∙◌}
 use mathlib.Core.Bool.{true, false}
 use mathlib.Core.Logic.{◌⊎◌, inl, inr, ⊎_elim}

@@ -2,14 +2,14 @@
 --   Summary summary    of a state: the code, the activity, the connection
 --   Settles c s a x    the call c, made in s, settles what was pending: the activity is a then, with the connection x
 --   settles_quiet settles_apart settles_plain   .. there was no INT, no selection runs, and no code is to come
---   read_out_quiet     where the read_out begins, nothing was pending
+--   read_out_quiet     where the read-out begins, nothing was pending
 --   Tells c s z        the call c, made in s, leaves z: the eight ways
 --   Leaves s x         a code raised in s leaves the connection x: a selection is over
 --   ToldState so ToldReply   .. said of the state, or of the reply, that the call leads to
 --   unless_int         an event that is Held with INT set
 --   ended              an ending, by whether bytes are unread then
 --   brought            .. with a code of the table
---   read_out           a read_out
+--   read_out           a read-out
 --   is_plain            neither INT nor a code pending
 --   plain_int          .. no INT then
 --   connected_apart    connected, no selection runs
@@ -59,7 +59,7 @@ pub data Leaves (s : State) : Connection → Type 0 where
   gone : {x : Connection} → is_selecting x ≡ false → Leaves s x
   there : (Quiet s → is_running s.activity ≡ false) → Leaves s s.wire.connection
 
--- why nothing is pending, or a read_out with no code, where something else was: a Disconnect, a Free at 42h, the last byte after one
+-- why nothing is pending, or a read-out with no code, where something else was: a Disconnect, a Free at 42h, the last byte after one
 pub data Settles (c : Call) (s : State) : Activity → Connection → Type 0 where
   disconnects : is_disconnect c s ≡ true → interrupted s ≡ false → Settles c s A.Idle Disconnected
   reads_out_rest : {r : Command} → BeginsReadOut c s → Settles c s (A.ReadOut r) Disconnected
@@ -100,7 +100,7 @@ so h = record { tells = h }
 abbrev pub ToldReply : Call → State → Reply → Type 0
 ToldReply c s r = ToldState c s r.state
 
--- the read_out begins with nothing pending
+-- the read-out begins with nothing pending
 pub read_out_quiet : {c : Call} {s : State} → BeginsReadOut c s → Quiet s
 read_out_quiet (B.leaves_unread q x r e d u) = q
 
@@ -150,7 +150,7 @@ module _ {c : Call} {s : State} where
       (begins (going_quiet s on) (x w) z)))
       (λ w. so (raises (going_open s on) (y w) (gone z)))
 
-  -- the read_out begins: t is s with the bus free
+  -- the read-out begins: t is s with the bus free
   pub read_out : (t : State) → t.status.code ≡ s.status.code → t.wire.connection ≡ Disconnected → goes_on s.activity ≡ true
       → BeginsReadOut c s → ToldState c s (set_activity (reads_out s.activity) t)
   read_out t e x on h =

@@ -13,7 +13,7 @@
 --   LastMessage n b m s  .. is the last Message In byte of a Transfer Info
 --   Translates c s       the call c is a Translate Address that s carries out
 --   is_off_disk s          one of the five reasons for 45h holds of the registers of s
---   expects g p b s      at the stage g a Request of phase p with the byte b is expected (expects_body, expectsLate: two stages of it)
+--   expects g p b s      at the stage g a Request of phase p with the byte b is expected (expects_body, expects_late: two stages of it)
 --   is_before_status g     the stage g is one that takes the messages 02 and 04
 --   wants p b s          the running command wants it: a byte of it would cross, were there room or a byte
 --   fits p s             there is room for a byte of phase p
