@@ -146,7 +146,7 @@ module _ {s₀ : State} (j : Job) (pr : Proper s₀ j) (s : State) (a : Apart s)
       record {
         so_far = BP.so_far j (story j) total r;
         all = λ y. (BP.held j (story j) total r y).log;
-        data_in_lem = λ y. ap (bytes_of DataIn) (BP.held j (story j) total r y).got ∙ heard_data;
+        data_in = λ y. ap (bytes_of DataIn) (BP.held j (story j) total r y).got ∙ heard_data;
         status = λ y. let k = BP.held j (story j) total r y.free in status_b c.host k.got k.noted;
         count = λ y m. count_b c.host (BP.held j (story j) total r y.free).noted m;
         on = BS.brought j (story j) total r;
@@ -165,7 +165,7 @@ module _ {s₀ : State} (j : Job) (pr : Proper s₀ j) (s : State) (a : Apart s)
         same =
             λ f g.
             record {
-              the_data = x.data_in_lem f.free ∙ sym (y.data_in_lem g.free);
+              the_data = x.data_in f.free ∙ sym (y.data_in g.free);
               the_status = x.status f ∙ sym (y.status g);
               the_count = λ k. x.count f k ∙ sym (y.count g k);
             };

@@ -381,7 +381,7 @@ module _ {s₀ : State} (j : Job) (pr : Proper s₀ j) where
       record {
         so_far = so_far r;
         all = λ y. (held r y).log;
-        data_in_lem = λ y. ap (bytes_of DataIn) (held r y).got ∙ bytes_same DataIn (incoming_data j.way j.moved);
+        data_in = λ y. ap (bytes_of DataIn) (held r y).got ∙ bytes_same DataIn (incoming_data j.way j.moved);
         status = λ y. status_is c.host (held r y.free).got (notes r y);
         count = λ y k. count_is c.host (notes r y);
         on = brought r;

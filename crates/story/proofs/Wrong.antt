@@ -18,7 +18,7 @@ fewer e = let z : ◌≡◌ {A = ℕ} 1 3 = ap length e in omega arith
 -- of three bytes the host is left with the first
 nods_refuted : Demand nods → ⊥
 unfolding runs run nods
-nods_refuted d = fewer ((d [] (small inward) 4 (turns 80) [] (proper_small _ inward) starts (in_time inward)).for_transfer.data_in_lem refl)
+nods_refuted d = fewer ((d [] (small inward) 4 (turns 80) [] (proper_small _ inward) starts (in_time inward)).for_transfer.data_in refl)
 
 other : ◌≡◌ {A = List ℕ} (0 ∷ 0 ∷ 42 ∷ []) (0 ∷ 0 ∷ 2 ∷ []) → ⊥
 other e = let z : ◌≡◌ {A = ℕ} 42 2 = ap (λ (l : List ℕ). get_or l 2 0) e in omega arith

@@ -81,7 +81,7 @@ module _ (does : Call → State → Outcome) where
       pub so_far : (rest : List Item) × (z.target.log ++ rest ≡ story j)
       -- all of it when the bus is free again, and the host has all data that came in
       pub all : z.target.place ≡ away → z.target.log ≡ story j
-      pub data_in_lem : z.target.place ≡ away → data_held z.host ≡ incoming_data j.way j.moved
+      pub data_in : z.target.place ≡ away → data_held z.host ≡ incoming_data j.way j.moved
       -- once the host has nothing left to do, it holds the status, and the count left by the data
       pub status : Finished g z → status_held z.host ≡ j.status ∷ []
       pub count : Finished g z → 1 ≤ length j.moved → count_held z.host ≡ count_bytes (loaded j - length j.moved)
