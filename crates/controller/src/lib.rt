@@ -69,7 +69,8 @@ pub fn am33c93a_register(image: &mut [u8], mark: u32, byte: u32) -> u32
     if mark < 2 {
         if byte < 256 {
             if image::is_image(image) {
-                if mark == 1 {
+                let writes = mark == 1;
+                if writes {
                     return in_place::register_written(byte as u8, image);
                 }
                 return in_place::register_read(image);
@@ -100,7 +101,8 @@ pub fn am33c93a_time(image: &mut [u8], units: u32) -> u32
     ensures { (result ≡ (entered (Calls.time units) image.old).result)
         × (image.new ≡ (entered (Calls.time units) image.old).image) }
 {
-    if units < 256 {
+    let fits = units < 256;
+    if fits {
         if image::is_image(image) {
             return in_place::time(units as u8, image);
         }

@@ -8,12 +8,12 @@ use Rattle.controller.proofs.Entry.{entered_made, not_standing, refused_operand,
 use Rattle.controller.proofs.Steps.{read_alike}
 use Rattle.controller.proofs.am33c93a_register.Goals as goal
 
-pub returns-then-mark-eq1 : goal.returns-then-mark-eq1
+pub returns-then-writes : goal.returns-then-writes
 unfolding is_good carried
-returns-then-mark-eq1 c =
+returns-then-writes c =
     entered_made (Calls.register _ _) _ _ _ _ (sym c.if-is_image.ensures.0)
     (and_true (lt-ltb _ _ c.if-mark-lt2.true) (lt-ltb _ _ c.if-byte-lt256.true))
-    (ap (λ (w : Bool). plain (accessed w c.args.byte (state_of c.args.image.now))) (eq-eqb _ _ c.if-mark-eq1.true))
+    (ap (λ (w : Bool). plain (accessed w c.args.byte (state_of c.args.image.now))) (eq-eqb _ _ c.if-writes.true))
     c.register_written.ensures
 
 pub returns-then-is_image : goal.returns-then-is_image
@@ -21,7 +21,7 @@ unfolding is_good carried
 returns-then-is_image c =
     entered_made (Calls.register _ _) _ _ _ _ (sym c.if-is_image.ensures.0)
     (and_true (lt-ltb _ _ c.if-mark-lt2.true) (lt-ltb _ _ c.if-byte-lt256.true))
-    (ap (λ (w : Bool). plain (accessed w c.args.byte (state_of c.args.image.now))) (ne_eqb _ _ c.if-mark-eq1.false)
+    (ap (λ (w : Bool). plain (accessed w c.args.byte (state_of c.args.image.now))) (ne_eqb _ _ c.if-writes.false)
     ∙ ap plain (read_alike c.args.byte (state_of c.args.image.now)))
     c.register_read.ensures
 

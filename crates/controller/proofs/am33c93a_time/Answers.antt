@@ -8,11 +8,11 @@ use Rattle.controller.proofs.am33c93a_time.Goals as goal
 pub returns-then-is_image : goal.returns-then-is_image
 unfolding is_good carried
 returns-then-is_image c =
-    entered_made (Calls.time _) _ _ _ _ (sym c.if-is_image.ensures.0) (lt-ltb _ _ c.if-units-lt256.true) refl c.time.ensures
+    entered_made (Calls.time _) _ _ _ _ (sym c.if-is_image.ensures.0) (lt-ltb _ _ c.if-fits.true) refl c.time.ensures
 
-pub returns-then-units-lt256 : goal.returns-then-units-lt256
-returns-then-units-lt256 c = not_standing (Calls.time _) _ (sym c.if-is_image.ensures.0)
+pub returns-then-fits : goal.returns-then-fits
+returns-then-fits c = not_standing (Calls.time _) _ (sym c.if-is_image.ensures.0)
 
 pub returns : goal.returns
 unfolding is_good
-returns c = refused_operand (Calls.time _) _ (le-ltb _ _ c.if-units-lt256.false)
+returns c = refused_operand (Calls.time _) _ (le-ltb _ _ c.if-fits.false)
