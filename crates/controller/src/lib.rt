@@ -1,6 +1,6 @@
-// The C entries: an image comes in, one call is made on its state, the image goes out. Nothing is required of the caller's numbers
+// The entries: an image comes in, one call is made on its state, the image goes out. Nothing is required of the caller's numbers
 // or bytes: an image of another length, bytes that are no state's image and operands out of range are Bad number, with every lent
-// byte as it was. include/am33c93a.h is the C side.
+// byte as it was. Room controller_c gives them their C names; include/am33c93a.h is the C side.
 #![tactic(auto)]
 
 mod driven; // driven.rt: what a board drives on the bus

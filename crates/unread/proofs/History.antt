@@ -1,8 +1,8 @@
 -- The law of specs/History.antt holds of the step.
 --   no_status_lost   over every list of calls, from every state
 --   ran              `run` of the step is the chip's `after`
---   code_after       the code at 17h after any calls from a fresh state is the one raised last, 0 where none was
---   owed_after       what is pending is what is owed after them: the code at 17h, where INT is set, or a code to come
+--   code-after       the code at 17h after any calls from a fresh state is the one raised last, 0 where none was
+--   owed-after       what is pending is what is owed after them: the code at 17h, where INT is set, or a code to come
 use mathlib.Core.Path.{◌≡◌, refl, sym, ap, ◌∙◌}
 use mathlib.Core.Bool.{true, false}
 use mathlib.Core.List.{List, [], ◌∷◌, ◌++◌}
