@@ -2,9 +2,7 @@
 ghost use Rattle.std.specs.Prelude.{◌≤◌};
 
 use crate::names::say;
-use crate::output::Output;
 use crate::{names, tables};
-use std::io::Write;
 
 // first holds the session by the code; 0 while the code was not read.
 pub(crate) fn note(code: u32, session: u8, first: &mut [u8]) {
@@ -25,30 +23,30 @@ fn session_of(code: u32, first: &[u8]) -> u8 {
 }
 
 // The line of row k, and 1 where its code was read.
-fn say_line<W: Write + Drop>(k: u32, first: &[u8], out: &mut Output<W>) -> u32
+fn say_line(k: u32, first: &[u8]) -> u32
     ensures { result ≤ 1 }
 {
     let session = session_of(tables::code_at(k), first);
-    say(b"  ", out);
+    say(b"  ");
     if session == 0 {
-        say(b"NEVER READ  ", out);
-        names::say_row(&tables::CODES, k, out);
-        say(b"\n", out);
+        say(b"NEVER READ  ");
+        names::say_row(&tables::CODES, k);
+        say(b"\n");
         return 0;
     }
-    say(b"session", out);
-    names::say_number(session as u32, out);
-    say(b"  ", out);
-    names::say_row(&tables::CODES, k, out);
-    say(b"\n", out);
+    say(b"session");
+    names::say_number(session as u32);
+    say(b"  ");
+    names::say_row(&tables::CODES, k);
+    say(b"\n");
     1
 }
 
 // The list of all codes; its result is how many were read.
-pub(crate) fn say_all<W: Write + Drop>(first: &[u8], out: &mut Output<W>) -> u32 {
+pub(crate) fn say_all(first: &[u8]) -> u32 {
     let mut read: u32 = 0;
     for k in 0..tables::CODE_ROWS {
-        read += say_line(k, first, out);
+        read += say_line(k, first);
     }
     read
 }

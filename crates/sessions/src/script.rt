@@ -10,10 +10,8 @@
 ghost use Rattle.std.specs.Prelude.{◌≤◌, length};
 
 use crate::names::say;
-use crate::output::Output;
 use crate::{calls, codes, names, tables, words};
 use controller::{am33c93a_auxiliary, am33c93a_fresh};
-use std::io::Write;
 
 #[derive(Clone, Copy)]
 struct Tally {
@@ -61,10 +59,10 @@ fn expected(rest: &[u8]) -> u32 {
     }
 }
 
-fn say_bytes<W: Write + Drop>(data: &[u8], n: u32, out: &mut Output<W>) {
+fn say_bytes(data: &[u8], n: u32) {
     for byte in data.iter().take(n as usize) {
-        say(b" ", out);
-        names::say_byte(words::wide(*byte), out);
+        say(b" ");
+        names::say_byte(words::wide(*byte));
     }
 }
 
@@ -72,74 +70,63 @@ fn say_bytes<W: Write + Drop>(data: &[u8], n: u32, out: &mut Output<W>) {
 const FORMS: [u8; 20] = *b"-bab--c-nni-n---b-l-";
 
 // before is what auxiliary status showed before the call.
-fn say_value<W: Write + Drop>(
-    verb: u32,
-    value: u32,
-    before: u32,
-    data: &[u8],
-    out: &mut Output<W>,
-) {
+fn say_value(verb: u32, value: u32, before: u32, data: &[u8]) {
     let form = FORMS[(verb % 20) as usize];
     if form != b'-' {
-        say(b" ", out);
+        say(b" ");
     }
     match form {
-        b'b' => names::say_byte(value, out),
-        b'n' => names::say_decimal(value, out),
+        b'b' => names::say_byte(value),
+        b'n' => names::say_decimal(value),
         b'c' => {
-            names::say_code(value, out);
-            say(b" (auxiliary was ", out);
-            names::say_byte(before, out);
-            say(b")", out);
+            names::say_code(value);
+            say(b" (auxiliary was ");
+            names::say_byte(before);
+            say(b")");
         }
         b'a' => {
-            names::say_byte(value, out);
-            names::say_auxiliary(value, out);
+            names::say_byte(value);
+            names::say_auxiliary(value);
         }
         b'i' => {
-            names::say_decimal(value, out);
-            say(b" ", out);
-            say_bytes(data, value, out);
+            names::say_decimal(value);
+            say(b" ");
+            say_bytes(data, value);
         }
-        b'l' => names::say_lines(value, out),
+        b'l' => names::say_lines(value),
         _ => {}
     }
 }
 
-fn say_result<W: Write + Drop>(verb: u32, res: u32, before: u32, data: &[u8], out: &mut Output<W>) {
+fn say_result(verb: u32, res: u32, before: u32, data: &[u8]) {
     let number = res % 256;
-    names::say_answer(number, out);
+    names::say_answer(number);
     match number {
-        0 => say_value(verb, res / 256, before, data, out),
+        0 => say_value(verb, res / 256, before, data),
         4 | 7 => {
-            say(b" ", out);
-            names::say_byte(res / 256, out);
+            say(b" ");
+            names::say_byte(res / 256);
         }
         _ => {}
     }
 }
 
 // The call as the script has it, in the column of its side.
-fn say_call<W: Write + Drop>(verb: u32, call: &[u8], out: &mut Output<W>) {
+fn say_call(verb: u32, call: &[u8]) {
     if verb == calls::CODE {
-        say(b"; code: ", out);
+        say(b"; code: ");
         return;
     }
     if calls::is_bus(verb) {
-        say(b"\n  disk  ", out);
+        say(b"\n  disk  ");
     } else {
-        say(b"\n  host  ", out);
+        say(b"\n  host  ");
     }
-    say(call, out);
-    names::say_gap(call.len(), out);
+    say(call);
+    names::say_gap(call.len());
 }
 
-fn compared<W: Write + Drop>(
-    is_right: bool,
-    rest: &[u8],
-    tally: Tally,
-    out: &mut Output<W>,
-) -> Tally {
+fn compared(is_right: bool, rest: &[u8], tally: Tally) -> Tally {
     let calls = std::num::wrapping_add_u64(tally.calls, 1);
     if is_right {
         return Tally {
@@ -148,8 +135,8 @@ fn compared<W: Write + Drop>(
             wrong: tally.wrong,
         };
     }
-    say(b"   EXPECTED", out);
-    say(rest, out);
+    say(b"   EXPECTED");
+    say(rest);
     Tally {
         session: tally.session,
         calls,
@@ -157,25 +144,24 @@ fn compared<W: Write + Drop>(
     }
 }
 
-fn call<W: Write + Drop>(
+fn call(
     call: &[u8],
     rest: &[u8],
     image: &mut [u8],
     data: &mut [u8],
     first: &mut [u8],
     tally: Tally,
-    out: &mut Output<W>,
 ) -> Tally {
     let verb = calls::verb_of(call);
     let before = am33c93a_auxiliary(image) / 256;
-    say_call(verb, call, out);
+    say_call(verb, call);
     if is_series(verb, call) {
-        return call_series(call, rest, image, tally, out);
+        return call_series(call, rest, image, tally);
     }
     let result = calls::made(verb, call, image, data);
-    say_result(verb, result, before, data, out);
+    say_result(verb, result, before, data);
     note(verb, before, result / 256, first, tally);
-    compared(result == expected(rest), rest, tally, out)
+    compared(result == expected(rest), rest, tally)
 }
 
 fn is_series(verb: u32, call: &[u8]) -> bool {
@@ -194,23 +180,17 @@ fn note(verb: u32, before: u32, code: u32, first: &mut [u8], tally: Tally) {
     }
 }
 
-fn call_series<W: Write + Drop>(
-    call: &[u8],
-    rest: &[u8],
-    image: &mut [u8],
-    tally: Tally,
-    out: &mut Output<W>,
-) -> Tally {
+fn call_series(call: &[u8], rest: &[u8], image: &mut [u8], tally: Tally) -> Tally {
     let run = requests(call, calls::times(call), image);
-    names::say_answer(run.start % 256, out);
-    say(b" ", out);
-    names::say_byte(run.start / 256, out);
-    say(b" to ", out);
-    names::say_byte(run.last / 256, out);
+    names::say_answer(run.start % 256);
+    say(b" ");
+    names::say_byte(run.start / 256);
+    say(b" to ");
+    names::say_byte(run.last / 256);
     if run.rises {
-        return compared(run.start == expected(rest), rest, tally, out);
+        return compared(run.start == expected(rest), rest, tally);
     }
-    compared(false, rest, tally, out)
+    compared(false, rest, tally)
 }
 
 // Without blanks at its end.
@@ -227,14 +207,9 @@ fn trimmed(text: &[u8]) -> usize
     0
 }
 
-fn begun<W: Write + Drop>(
-    line: &[u8],
-    image: &mut [u8],
-    tally: Tally,
-    out: &mut Output<W>,
-) -> Tally {
-    say(b"\n\n", out);
-    say(line, out);
+fn begun(line: &[u8], image: &mut [u8], tally: Tally) -> Tally {
+    say(b"\n\n");
+    say(line);
     am33c93a_fresh(image);
     Tally {
         session: (words::operand(line, 1) % 256) as u8,
@@ -243,42 +218,29 @@ fn begun<W: Write + Drop>(
     }
 }
 
-fn remarked<W: Write + Drop>(line: &[u8], tally: Tally, out: &mut Output<W>) -> Tally {
-    say(b"\n  ", out);
-    say(line, out);
+fn remarked(line: &[u8], tally: Tally) -> Tally {
+    say(b"\n  ");
+    say(line);
     tally
 }
 
-fn step<W: Write + Drop>(
-    line: &[u8],
-    image: &mut [u8],
-    data: &mut [u8],
-    first: &mut [u8],
-    tally: Tally,
-    out: &mut Output<W>,
-) -> Tally {
+fn step(line: &[u8], image: &mut [u8], data: &mut [u8], first: &mut [u8], tally: Tally) -> Tally {
     if line.len() == 0 {
         return tally;
     }
     if line[0] == b'#' {
-        return remarked(line, tally, out);
+        return remarked(line, tally);
     }
     if words::is(line, 0, b"session") {
-        return begun(line, image, tally, out);
+        return begun(line, image, tally);
     }
     let mark = words::place_of(line, 0, b'=');
     let end = trimmed(&line[0..mark]);
     let rest = words::after(line, mark);
-    call(&line[0..end], &line[rest..], image, data, first, tally, out)
+    call(&line[0..end], &line[rest..], image, data, first, tally)
 }
 
-fn all_lines<W: Write + Drop>(
-    text: &[u8],
-    image: &mut [u8],
-    data: &mut [u8],
-    first: &mut [u8],
-    out: &mut Output<W>,
-) -> Tally {
+fn all_lines(text: &[u8], image: &mut [u8], data: &mut [u8], first: &mut [u8]) -> Tally {
     let mut tally = Tally {
         session: 0,
         calls: 0,
@@ -287,7 +249,7 @@ fn all_lines<W: Write + Drop>(
     let mut at = 0;
     while at < text.len() {
         let end = words::place_of(text, at, b'\n');
-        tally = step(&text[at..end], image, data, first, tally, out);
+        tally = step(&text[at..end], image, data, first, tally);
         if end == text.len() {
             return tally;
         }
@@ -296,28 +258,25 @@ fn all_lines<W: Write + Drop>(
     tally
 }
 
-pub(crate) fn run<W: Write + Drop>(text: &[u8], out: &mut Output<W>) {
+pub(crate) fn run(text: &[u8]) {
     let mut image = [0u8; 54];
     let mut data = [0u8; 32];
     let mut first = [0u8; 256];
-    say(b"Sessions of the controller", out);
-    let tally = all_lines(text, &mut image, &mut data, &mut first, out);
-    finish(&first, tally, out);
+    say(b"Sessions of the controller");
+    let tally = all_lines(text, &mut image, &mut data, &mut first);
+    finish(&first, tally);
 }
 
-fn finish<W: Write + Drop>(first: &[u8], tally: Tally, out: &mut Output<W>) {
-    say(
-        b"\n\nEvery status code, and the session in which a driver first reads it:\n",
-        out,
-    );
-    let read = codes::say_all(first, out);
-    say(b"\n", out);
-    out.put_decimal(tally.calls);
-    say(b" lines, ", out);
-    out.put_decimal(tally.wrong);
-    say(b" answered otherwise than the papers say; ", out);
-    names::say_decimal(read, out);
-    say(b" of ", out);
-    names::say_decimal(tables::CODE_ROWS, out);
-    say(b" status codes read\n", out);
+fn finish(first: &[u8], tally: Tally) {
+    say(b"\n\nEvery status code, and the session in which a driver first reads it:\n");
+    let read = codes::say_all(first);
+    say(b"\n");
+    io::print_decimal(1, tally.calls);
+    say(b" lines, ");
+    io::print_decimal(1, tally.wrong);
+    say(b" answered otherwise than the papers say; ");
+    names::say_decimal(read);
+    say(b" of ");
+    names::say_decimal(tables::CODE_ROWS);
+    say(b" status codes read\n");
 }

@@ -126,7 +126,7 @@ fn is_row(table: &[u8], k: u32, word: &[u8]) -> bool {
     let r = row(table, k);
     let from = r.from;
     let to = r.to;
-    &table[from..to] == word
+    check::same(&table[from..to], word)
 }
 
 // Which of the first n rows is this word; n where none is.

@@ -51,7 +51,7 @@ pub(crate) fn is(line: &[u8], k: u32, name: &[u8]) -> bool {
     let w = word(line, k);
     let from = w.from;
     let to = w.to;
-    &line[from..to] == name
+    check::same(&line[from..to], name)
 }
 
 // The place after `at`, or the end.
