@@ -33,7 +33,6 @@ pub fn am33c93a_fresh(image: &mut [u8]) -> u32
     BAD_NUMBER
 }
 
-#[tactic(auto, unfolding(chip::specs::Calls::is_good, chip::specs::Calls::carried))]
 pub fn am33c93a_pointer(image: &mut [u8], mark: u32, byte: u32) -> u32
     ensures { (result ≡ (entered (Calls.pointer mark byte) image.old).result)
         × (image.new ≡ (entered (Calls.pointer mark byte) image.old).image) }
@@ -50,7 +49,6 @@ pub fn am33c93a_pointer(image: &mut [u8], mark: u32, byte: u32) -> u32
     BAD_NUMBER
 }
 
-#[tactic(auto, unfolding(chip::specs::Calls::is_good, chip::specs::Calls::carried))]
 pub fn am33c93a_auxiliary(image: &mut [u8]) -> u32
     ensures { (result ≡ (entered Calls.auxiliary image.old).result)
         × (image.new ≡ (entered Calls.auxiliary image.old).image) }
@@ -61,7 +59,6 @@ pub fn am33c93a_auxiliary(image: &mut [u8]) -> u32
     BAD_NUMBER
 }
 
-#[tactic(auto, unfolding(chip::specs::Calls::is_good, chip::specs::Calls::carried))]
 pub fn am33c93a_register(image: &mut [u8], mark: u32, byte: u32) -> u32
     ensures { (result ≡ (entered (Calls.register mark byte) image.old).result)
         × (image.new ≡ (entered (Calls.register mark byte) image.old).image) }
@@ -96,7 +93,6 @@ pub fn am33c93a_block(image: &mut [u8], mark: u32, bytes: &mut [u8]) -> u32
     BAD_NUMBER
 }
 
-#[tactic(auto, unfolding(chip::specs::Calls::is_good, chip::specs::Calls::carried))]
 pub fn am33c93a_time(image: &mut [u8], units: u32) -> u32
     ensures { (result ≡ (entered (Calls.time units) image.old).result)
         × (image.new ≡ (entered (Calls.time units) image.old).image) }
@@ -111,7 +107,6 @@ pub fn am33c93a_time(image: &mut [u8], units: u32) -> u32
     BAD_NUMBER
 }
 
-#[tactic(auto, unfolding(chip::specs::Calls::is_good, chip::specs::Calls::carried))]
 pub fn am33c93a_answer(image: &mut [u8]) -> u32
     ensures { (result ≡ (entered Calls.answer image.old).result)
         × (image.new ≡ (entered Calls.answer image.old).image) }
@@ -124,7 +119,6 @@ pub fn am33c93a_answer(image: &mut [u8]) -> u32
     BAD_NUMBER
 }
 
-#[tactic(auto, unfolding(chip::specs::Calls::is_good, chip::specs::Calls::carried))]
 pub fn am33c93a_reselection(image: &mut [u8], lines: u32) -> u32
     ensures { (result ≡ (entered (Calls.reselection lines) image.old).result)
         × (image.new ≡ (entered (Calls.reselection lines) image.old).image) }
@@ -138,7 +132,6 @@ pub fn am33c93a_reselection(image: &mut [u8], lines: u32) -> u32
     BAD_NUMBER
 }
 
-#[tactic(auto, unfolding(chip::specs::Calls::is_good, chip::specs::Calls::carried))]
 pub fn am33c93a_request(image: &mut [u8], phase: u32, byte: u32, parity: u32) -> u32
     ensures { (result ≡ (entered (Calls.request phase byte parity) image.old).result)
         × (image.new ≡ (entered (Calls.request phase byte parity) image.old).image) }
@@ -158,7 +151,6 @@ pub fn am33c93a_request(image: &mut [u8], phase: u32, byte: u32, parity: u32) ->
     BAD_NUMBER
 }
 
-#[tactic(auto, unfolding(chip::specs::Calls::is_good, chip::specs::Calls::carried))]
 pub fn am33c93a_free(image: &mut [u8]) -> u32
     ensures { (result ≡ (entered Calls.free image.old).result)
         × (image.new ≡ (entered Calls.free image.old).image) }

@@ -7,7 +7,6 @@ ghost use Rattle.fifo.specs.Part.{part_drained, part_filled};
 use crate::part;
 use crate::part::LENGTH;
 
-#[tactic(auto, unfolding(chip::specs::Fifo::is_empty, crate::specs::Bulk::drained, chip::specs::Fifo::waits))]
 pub fn drain(part: &mut [u8], out: &mut [u8]) -> u8
     ensures { (result ≡ (part_drained out.old part.old).moved)
         × (part.new ≡ (part_drained out.old part.old).part)
@@ -51,7 +50,6 @@ fn takes(n: u32, held: u8) -> bool
     false
 }
 
-#[tactic(auto, unfolding(crate::specs::Bulk::takes, chip::specs::Fifo::waits, chip::specs::Fifo::has_room, crate::specs::Bulk::filled))]
 pub fn fill(n: u32, part: &mut [u8], from: &[u8]) -> u8
     ensures { (result ≡ (part_filled n from.now part.old).moved)
         × (part.new ≡ (part_filled n from.now part.old).part) }

@@ -44,7 +44,6 @@ pub fn low_byte(n: u32) -> u8
     (n & 0xff) as u8
 }
 
-#[tactic(auto, unfolding(chip::specs::Lines::packed))]
 pub fn packed(int: bool, lci: bool, bsy: bool, pe: bool, dbr: bool) -> u8
     ensures { result ≡ packed int lci bsy pe dbr }
 {
@@ -65,7 +64,6 @@ pub fn idi(s: State) -> bool
     is_on(2, s.registers.setup.control)
 }
 
-#[tactic(auto, unfolding(chip::specs::Lines::with_idi, chip::specs::Lines::is_on, chip::specs::Choice::pick))]
 pub fn with_idi(b: u8) -> u8
     ensures { result ≡ with_idi b }
 {
@@ -125,7 +123,6 @@ pub fn lun_of(s: State) -> Lun
     }
 }
 
-#[tactic(auto, unfolding(chip::specs::Lines::identify))]
 pub fn identify(l: Lun, reselects: bool) -> u8
     ensures { result ≡ identify l reselects }
 {
@@ -139,7 +136,6 @@ pub fn line_of(i: Identity) -> u8
     i.number & 7
 }
 
-#[tactic(auto, unfolding(chip::specs::Lines::ones))]
 fn ones(lines: u8) -> u32
     ensures { result ≡ ones lines }
 {
@@ -162,14 +158,12 @@ pub fn are_two(lines: u8) -> bool
 }
 
 // The mask makes the 32 zeros of no line 0.
-#[tactic(auto, unfolding(chip::specs::Lines::lowest, chip::specs::Lines::is_on, chip::specs::Choice::pick))]
 fn lowest(lines: u8) -> u8
     ensures { result ≡ lowest lines }
 {
     (u32::trailing_zeros(lines as u32) & 7) as u8
 }
 
-#[tactic(auto, unfolding(chip::specs::Lines::without, chip::specs::Lines::is_on, chip::specs::Choice::pick))]
 fn without(k: u8, lines: u8) -> u8
     requires { k < 8 }
     ensures { result ≡ without k lines }
