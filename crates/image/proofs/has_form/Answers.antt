@@ -10,26 +10,26 @@ use Rattle.chip.proofs.ImageTests.{both_on, both_and, and_chain}
 use Rattle.image.proofs.Ends.{valid_end}
 use Rattle.image.proofs.has_form.Goals as goal
 
-and-on : (a : Bool) → (a && true) ≡ a
-and-on true = refl
-and-on false = refl
+and_on : (a : Bool) → (a && true) ≡ a
+and_on true = refl
+and_on false = refl
 
-and-off : (a : Bool) → (a && false) ≡ false
-and-off true = refl
-and-off false = refl
+and_off : (a : Bool) → (a && false) ≡ false
+and_off true = refl
+and_off false = refl
 
-both-off : (a : Bool) → both false a ≡ false
+both_off : (a : Bool) → both false a ≡ false
 unfolding both
-both-off a = refl
+both_off a = refl
 
 -- the definition asks in the order of the bytes; the code asks the activity, c, last, and d and e after the flags
-lined-up : (a b c d e f g h i j k z : Bool)
+lined_up : (a b c d e f g h i j k z : Bool)
     → both a (both b (both c (both d (both e (both f (both g (both h (both i (both j (both k z))))))))))
     ≡ both (a && b && f && g && h && d && e && i && j && k && c) z
-lined-up a b false d e f g h i j k z = simp (both-off, both_and, and_chain, and-off)
-lined-up a b true false e f g h i j k z = simp (both-off, both_on, both_and, and_chain, and-off)
-lined-up a b true true false f g h i j k z = simp (both-off, both_on, both_and, and_chain, and-off)
-lined-up a b true true true f g h i j k z = simp (both_on, both_and, and_chain, and-on)
+lined_up a b false d e f g h i j k z = simp (both_off, both_and, and_chain, and_off)
+lined_up a b true false e f g h i j k z = simp (both_off, both_on, both_and, and_chain, and_off)
+lined_up a b true true false f g h i j k z = simp (both_off, both_on, both_and, and_chain, and_off)
+lined_up a b true true true f g h i j k z = simp (both_on, both_and, and_chain, and_on)
 
 -- the flag that the code makes; a: what it was told of the activity
 abbrev flag : List ℕ → Bool → Bool
@@ -49,7 +49,7 @@ flag l a =
 settled : (l : List ℕ) (a r : Bool) → length l ≡ image_length → a ≡ is_activity (get_or l 28 0) (get_or l 29 0) (get_or l 31 0) → flag l a ≡ r
     → is_image l ≡ both r (is_fifo (drop fifo_place l))
 unfolding is_image
-settled l a r h k e = rw (eq-eqb _ _ h, ← e, k) (both_on _ ∙ lined-up _ _ _ _ _ _ _ _ _ _ _ _)
+settled l a r h k e = rw (eq-eqb _ _ h, ← e, k) (both_on _ ∙ lined_up _ _ _ _ _ _ _ _ _ _ _ _)
 
 pub returns-then-ranges : goal.returns-then-ranges
 unfolding both

@@ -12,9 +12,9 @@ use Rattle.fifo.proofs.Places.{under}
 use Rattle.fifo.proofs.Stored.{number_and_part, run_stored, placed, place_next, too_many, no_place, other_length}
 use Rattle.fifo.proofs.bulk.fill.Goals as goal
 
-takes-is : (n : ℕ) (p : List ℕ) (k m : ℕ) → both (ltb m n) (ltb m 12) ≡ takes n (under p k m)
+takes_is : (n : ℕ) (p : List ℕ) (k m : ℕ) → both (ltb m n) (ltb m 12) ≡ takes n (under p k m)
 unfolding takes waits has_room
-takes-is n p k m = refl
+takes_is n p k m = refl
 
 -- the FIFO takes the byte
 below : (n : ℕ) (p : List ℕ) (k m : ℕ) → takes n (under p k m) ≡ true → m < 12
@@ -52,7 +52,7 @@ after-at-requires c = in_reach _ _ _ c.loop-j.invariant.behind
 
 pub overflow_add-held : goal.overflow_add-held
 overflow_add-held c =
-    let e = sym (c.if-takes.ensures ∙ takes-is c.args.n c.loop-j.part 0 c.loop-j.held) in
+    let e = sym (c.if-takes.ensures ∙ takes_is c.args.n c.loop-j.part 0 c.loop-j.held) in
     let b = below c.args.n c.loop-j.part 0 c.loop-j.held e in
     omega arith
 
@@ -65,7 +65,7 @@ loop-j-preserved c =
     let from = c.args.from.now in
     let v = get_or from j 0 in
     let h = c.loop-j-test.true in
-    let e = sym (c.if-takes.ensures ∙ takes-is c.args.n p k m) in
+    let e = sym (c.if-takes.ensures ∙ takes_is c.args.n p k m) in
     let then = placed p k m v (takes_room _ _ e) in
     record {
       long = length-set p _ v ∙ c.loop-j.invariant.long;
@@ -78,14 +78,14 @@ loop-j-preserved c =
 
 pub overflow_cast-result : goal.overflow_cast-result
 overflow_cast-result c =
-    let no = sym (c.if-takes.ensures ∙ takes-is c.args.n c.loop-j.part (get_or c.args.part.now 1 0) c.loop-j.held) in
+    let no = sym (c.if-takes.ensures ∙ takes_is c.args.n c.loop-j.part (get_or c.args.part.now 1 0) c.loop-j.held) in
     let b : c.loop-j.j < 256 = fits _ _ _ _ _ _ (stopped _ _ _ _ _ _ c.loop-j.invariant.going no) in
     omega arith
 
 pub returns-else-takes : goal.returns-else-takes
 returns-else-takes c =
     let h = c.if-part-eq-LENGTH.true in
-    let no = sym (c.if-takes.ensures ∙ takes-is c.args.n c.loop-j.part (get_or c.args.part.now 1 0) c.loop-j.held) in
+    let no = sym (c.if-takes.ensures ∙ takes_is c.args.n c.loop-j.part (get_or c.args.part.now 1 0) c.loop-j.held) in
     number_and_part
     (run_stored (filled c.args.n) c.args.part.now c.args.from.now _ c.loop-j.part _ _ _ _ h c.loop-j.invariant.long
     c.if-held-gt12.false c.if-first-gt11.false
