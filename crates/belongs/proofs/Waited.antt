@@ -3,6 +3,7 @@
 --   all_added      .. and no fewer, where register 02 is not 0
 --   elapsed_grows  one call adds its own units at most, while the selection goes on
 --   begins_at_zero a selection begins with none
+use Rattle.std.specs.Prelude.{Option}
 use mathlib.Core.Path.{◌≡◌, refl, sym, ap, subst, ◌∙◌}
 use mathlib.Core.Bool.{Bool, true, false}
 use mathlib.Core.List.{List, [], ◌∷◌, ◌++◌}
@@ -28,7 +29,6 @@ use Rattle.chip.specs.declared.State.{State}
 use Rattle.chip.specs.declared.Phase.{Phase}
 use Rattle.chip.specs.declared.Reply.{Reply}
 use Rattle.chip.specs.declared.Fifo.{Fifo}
-use Rattle.chip.specs.declared.Noted.{Noted}
 use Rattle.chip.specs.declared.Activity.{Activity}
 use Rattle.chip.specs.declared.Command.{Command}
 use Rattle.chip.specs.declared.Direction.{Direction}
@@ -271,7 +271,7 @@ begins_at_zero : (c : Call) (s : State) → Selects step c s → (step c s).stat
 begins_at_zero c s h = let k = selection_command c s h.command in command_zero s h.apart k.0 c k.1 h.selecting
 
 -- a reached state that selects does so by a command that goes on
-at_work : {single : Bool} {n : ℕ} {x : Activity} {c : Connection} {d : Direction} {f : Fifo} {atn ack : Bool} {w : Noted}
+at_work : {single : Bool} {n : ℕ} {x : Activity} {c : Connection} {d : Direction} {f : Fifo} {atn ack : Bool} {w : Option Phase}
     → is_selecting c ≡ true → Shape single n x c d f atn ack w → goes_on x ≡ true
 at_work e (idle a b c apart) = clash e refl
 at_work e (idle a b c joined) = clash e refl

@@ -4,7 +4,7 @@ ghost use Rattle.chip.specs.Choice.{either};
 ghost use Rattle.chip.specs.Events.{answered, answered_elsewhere, answered_selecting, answered_state, connected};
 
 use crate::time;
-use chip::{Connection, Noted, Reply, Seen, State};
+use chip::{Connection, Reply, Seen, State};
 use state::{activity, connections, set};
 
 #[tactic(auto, unfolding(chip::specs::Events::connected))]
@@ -12,8 +12,8 @@ pub fn connected(s: State) -> State
     ensures { result ≡ connected s }
 {
     let nothing = Seen {
-        reported: Noted::NoPhase,
-        last: Noted::NoPhase,
+        reported: None,
+        last: None,
     };
     set::connection(set::seen(s, nothing), Connection::Connected)
 }

@@ -5,7 +5,7 @@ ghost use Rattle.chip.specs.Choice.{pick};
 ghost use Rattle.chip.specs.Connections.{is_connected};
 ghost use Rattle.chip.specs.Events.{idle_request, is_served, remembered, remembered_by, requested, requested_connected, requested_running};
 
-use chip::{Answer, Noted, Phase, Reply, State};
+use chip::{Answer, Phase, Reply, State};
 use state::{activity, connections, set};
 
 #[tactic(auto, unfolding(chip::specs::Events::idle_request, chip::specs::Choice::pick, chip::specs::Interrupts::unless_interrupt))]
@@ -18,7 +18,7 @@ fn idle_request(p: Phase, s: State) -> Reply
     if interrupts::interrupted(s) {
         return answers::held(s);
     }
-    answers::reports(interrupts::raise(phases::coded(0x88, p), set::reported(s, Noted::Was(p))))
+    answers::reports(interrupts::raise(phases::coded(0x88, p), set::reported(s, Some(p))))
 }
 
 #[tactic(auto, unfolding(chip::specs::Events::requested_running, chip::specs::Choice::pick))]
@@ -80,7 +80,7 @@ fn remembered_by(a: Answer, p: Phase, r: Reply) -> Reply
 {
     let s = r.state;
     match a {
-        Answer::Done(v) => answers::done(v, set::last(s, Noted::Was(p))),
+        Answer::Done(v) => answers::done(v, set::last(s, Some(p))),
         Answer::Held => r,
         Answer::OutOfPlace => r,
         Answer::BadNumber => r,
@@ -88,7 +88,7 @@ fn remembered_by(a: Answer, p: Phase, r: Reply) -> Reply
         Answer::CommandIgnored => r,
         Answer::ReselectionIgnored => r,
         Answer::NoDataNow => r,
-        Answer::Reported => answers::reports(set::last(s, Noted::Was(p))),
+        Answer::Reported => answers::reports(set::last(s, Some(p))),
     }
 }
 

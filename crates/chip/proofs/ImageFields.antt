@@ -1,6 +1,7 @@
 -- A store into a state's image is the image of the state with one field changed.
 -- `written_out`: a state with its two arrays element by element is that state, so that its image computes.
 -- `pointer_stored`, `last_stored`, `low_stored`, `fifo_stored`: the field, and what is stored.
+use Rattle.std.specs.Prelude.{Option}
 use mathlib.Core.Path.{◌≡◌, refl, subst, ◌∙◌}
 use mathlib.Core.List.{List, ◌++◌}
 use Prim.Native.Nat.{ℕ, ◌/◌, ◌%◌}
@@ -9,12 +10,12 @@ use lib.ListN.{length, set, take}
 use lib.Seq.{take_all}
 use Rattle.chip.specs.declared.State.{State}
 use Rattle.chip.specs.declared.Fifo.{Fifo}
-use Rattle.chip.specs.declared.Noted.{Noted}
 use Rattle.chip.specs.State.{set_pointer, set_last, set_count, set_fifo, set_cdb}
 use Rattle.chip.specs.Image.{noted_byte, head_bytes, middle_bytes, image_of, fifo_place}
 use Rattle.chip.specs.Ok.{Ok}
 use Rattle.chip.proofs.ImageLists.{spelled, spelled_is}
 use Rattle.chip.specs.Fifo.{fifo_bytes}
+use Rattle.chip.specs.declared.Phase.{Phase}
 
 -- the command bytes are twelve
 pub record Long (s : State) : Type 0 where
@@ -40,7 +41,7 @@ pub pointer_stored : (b : ℕ) (s : State) → Long s → image_of (set_pointer 
 unfolding image_of head_bytes middle_bytes
 pointer_stored b s o = in_full_lem (λ (t : State). image_of (set_pointer b t) ≡ set (image_of t) 25 b) s o refl
 
-pub last_stored : (p : Noted) (s : State) → Long s → image_of (set_last p s) ≡ set (image_of s) 37 (noted_byte p)
+pub last_stored : (p : Option Phase) (s : State) → Long s → image_of (set_last p s) ≡ set (image_of s) 37 (noted_byte p)
 unfolding image_of head_bytes middle_bytes
 last_stored p s o = in_full_lem (λ (t : State). image_of (set_last p t) ≡ set (image_of t) 37 (noted_byte p)) s o refl
 

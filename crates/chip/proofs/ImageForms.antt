@@ -2,6 +2,7 @@
 -- `..-form`: from a case to its byte and back, and the byte's range. `..-kept`: from a byte in range to its case and back.
 -- `phase_below`: a phase's number is below 8. Of an activity's three bytes: ImageActivity.antt.
 -- `count_back`, `high_kept`, `middle_kept`, `low_kept`: the three bytes of a count.
+use Rattle.std.specs.Prelude.{Option, None, Some}
 use mathlib.Core.Path.{◌≡◌, refl}
 use mathlib.Core.Bool.{Bool, true, false}
 use Prim.Native.Nat.{ℕ, ◌+◌, ◌*◌, ◌/◌, ◌%◌, ◌<◌}
@@ -11,8 +12,6 @@ use borrow.Author.Tests.{ltb-true}
 use Rattle.chip.specs.declared.Connection.{Connection}
 use Rattle.chip.specs.declared.Direction.{Direction}
 use Rattle.chip.specs.declared.Direction.TheVariants.{Unfixed, In, Out}
-use Rattle.chip.specs.declared.Noted.{Noted}
-use Rattle.chip.specs.declared.Noted.TheVariants.{NoPhase, Was}
 use Rattle.chip.specs.declared.Phase.{Phase}
 use Rattle.chip.specs.declared.Phase.TheVariants.{DataOut, DataIn, CommandOut, StatusIn, UnspecifiedOut, UnspecifiedIn, MessageOut, MessageIn}
 use Rattle.chip.specs.Choice.{pick, both}
@@ -36,20 +35,20 @@ direction_form Unfixed = (refl, refl)
 direction_form In = (refl, refl)
 direction_form Out = (refl, refl)
 
-pub noted_form : (p : Noted) → (noted_of (noted_byte p) ≡ p) × (ltb (noted_byte p) 9 ≡ true)
+pub noted_form : (p : Option Phase) → (noted_of (noted_byte p) ≡ p) × (ltb (noted_byte p) 9 ≡ true)
 unfolding noted_of phase_of pick
-noted_form NoPhase = (refl, refl)
-noted_form (Was DataOut) = (refl, refl)
-noted_form (Was DataIn) = (refl, refl)
-noted_form (Was CommandOut) = (refl, refl)
-noted_form (Was StatusIn) = (refl, refl)
-noted_form (Was UnspecifiedOut) = (refl, refl)
-noted_form (Was UnspecifiedIn) = (refl, refl)
-noted_form (Was MessageOut) = (refl, refl)
-noted_form (Was MessageIn) = (refl, refl)
+noted_form None = (refl, refl)
+noted_form (Some DataOut) = (refl, refl)
+noted_form (Some DataIn) = (refl, refl)
+noted_form (Some CommandOut) = (refl, refl)
+noted_form (Some StatusIn) = (refl, refl)
+noted_form (Some UnspecifiedOut) = (refl, refl)
+noted_form (Some UnspecifiedIn) = (refl, refl)
+noted_form (Some MessageOut) = (refl, refl)
+noted_form (Some MessageIn) = (refl, refl)
 
 pub phase_below : (p : Phase) → phase_number p < 8
-phase_below p = omega (arith, ltb-true (phase_number p + 1) 9 (noted_form (Was p)).1)
+phase_below p = omega (arith, ltb-true (phase_number p + 1) 9 (noted_form (Some p)).1)
 
 pub bit_kept : (x : ℕ) → x < 2 → bit (eqb x 1) ≡ x
 unfolding both

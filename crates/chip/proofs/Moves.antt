@@ -2,6 +2,7 @@
 -- `plain_read`, `plain_write`: an access to one of 00 to 16h. `data_read_lem`, `data_write`: one to the Data register; `nothing_read`,
 -- `nothing_written`: one that moves no byte.
 -- `byte_taken`, `byte_sent`: a Request of Data In, of Data Out; `in_held`, `out_held`: with the FIFO full, empty. `write_room`: it has room.
+use Rattle.std.specs.Prelude.{Some}
 use mathlib.Core.Path.{◌≡◌, refl, ap, sym, ◌∙◌}
 use mathlib.Core.Bool.{Bool, true, false, not}
 use Prim.Native.Nat.{ℕ, ◌+◌, ◌-◌, ◌%◌, ◌<◌, ◌≤◌}
@@ -20,7 +21,6 @@ use Rattle.chip.specs.declared.Stage.{Stage}
 use Rattle.chip.specs.declared.Stage.TheVariants.{SendIdentify, SendCommand, Body, AfterData, Disconnecting, Reselected, AfterStatus, Elsewhere}
 use Rattle.chip.specs.declared.Phase.{Phase}
 use Rattle.chip.specs.declared.Phase.TheVariants.{DataOut, DataIn}
-use Rattle.chip.specs.declared.Noted.TheVariants.{Was}
 use Rattle.chip.specs.State.{set_pointer, set_fifo, set_pe, set_single, set_count, set_direction, set_phase, set_last}
 use Rattle.chip.specs.Answers.{done, held, no_data_now}
 use Rattle.chip.specs.Phases.{is_noted}
@@ -445,7 +445,7 @@ module _ (s : State) (e : takes_data s ≡ true) where
   carrying_in = both_second (is_under_way s) _ e
 
   pub byte_taken : (b : ℕ) → has_room s.fifo ≡ true → requested DataIn b false s
-      ≡ done b (set_last (Was DataIn) (set_count (s.registers.count - 1) (set_fifo (push b s.fifo) s)))
+      ≡ done b (set_last (Some DataIn) (set_count (s.registers.count - 1) (set_fifo (push b s.fifo) s)))
   unfolding remembered
   byte_taken b r =
       served s taking DataIn b false ∙ ap (remembered DataIn) (served_in s taking b carrying_in r ∙ ap (done b) (taken_is s taking b))
@@ -464,7 +464,7 @@ module _ (s : State) (e : sends_data s ≡ true) where
   carrying_out = both_second (is_under_way s) _ e
 
   pub byte_sent : (b : ℕ) (bad : Bool) → is_empty s.fifo ≡ false → requested DataOut b bad s
-      ≡ done (front s.fifo) (set_last (Was DataOut) (set_count (s.registers.count - 1) (set_fifo (pop s.fifo) s)))
+      ≡ done (front s.fifo) (set_last (Some DataOut) (set_count (s.registers.count - 1) (set_fifo (pop s.fifo) s)))
   unfolding remembered
   byte_sent b bad r =
       served s sending DataOut b bad

@@ -1,5 +1,5 @@
 -- Commands: the table, accepting, ignoring, 40h, and what each does. Paper: the section "Commands".
-use Rattle.std.specs.Prelude.{Bool, true, false, not, List, [], ◌∷◌, ℕ, ◌+◌, eqb, get_or}
+use Rattle.std.specs.Prelude.{Bool, true, false, not, List, [], ◌∷◌, ℕ, ◌+◌, eqb, get_or, Option, None, Some}
 use Rattle.chip.specs.Choice.{pick, both, either}
 use Rattle.chip.specs.declared.State.{State}
 use Rattle.chip.specs.declared.Reply.{Reply}
@@ -17,8 +17,6 @@ use Rattle.chip.specs.declared.Activity.TheVariants.{Idle, Interrupt, Runs}
 use Rattle.chip.specs.Activity.{goes_on}
 use Rattle.chip.specs.declared.Direction.{Direction}
 use Rattle.chip.specs.declared.Direction.TheVariants.{Unfixed, In, Out}
-use Rattle.chip.specs.declared.Noted.{Noted}
-use Rattle.chip.specs.declared.Noted.TheVariants.{NoPhase, Was}
 use Rattle.chip.specs.declared.Phase.{Phase}
 use Rattle.chip.specs.declared.Phase.TheVariants.{MessageOut}
 use Rattle.chip.specs.State.{cleared, nothing_moves, apart, set_fifo, set_control, set_command, set_lci, set_pe, set_activity, set_direction, set_connection, set_atn, set_ack, set_reported, set_elapsed}
@@ -97,9 +95,9 @@ is_place WhenConnected x = is_connected x
 is_place WhenConnectedOrWaiting x = either (is_connected x) (is_waiting x)
 is_place WhenConnectedOrDisconnected x = either (is_connected x) (is_disconnected x)
 
-abbrev pub is_some : Noted → Bool
-is_some NoPhase = false
-is_some (Was p) = true
+abbrev pub is_some : Option Phase → Bool
+is_some None = false
+is_some (Some p) = true
 
 -- what a command asks for beside the connection.
 -- "Abort is valid while BSY with no ending under way." "Transfer Info: connected, ACK not held, a phase reported."
@@ -131,15 +129,15 @@ reset b s =
     }
 
 -- "28h plus the phase of the last Request answered Done or Reported since connection, Message Out's 2Eh if none (house)"
-abbrev pub abort_phase : Noted → Phase
-abort_phase NoPhase = MessageOut
-abort_phase (Was p) = p
+abbrev pub abort_phase : Option Phase → Phase
+abort_phase None = MessageOut
+abort_phase (Some p) = p
 
 -- "When selecting or waiting for reselection it raises 22h, Disconnected. When connected it is ending with 28h plus the phase .."
 unfoldable pub aborted : State → State
 aborted s =
     pick (is_connected s.wire.connection)
-    (ending_with (0x28 + phase_number (abort_phase s.wire.seen.last)) (set_reported (Was (abort_phase s.wire.seen.last)) s))
+    (ending_with (0x28 + phase_number (abort_phase s.wire.seen.last)) (set_reported (Some (abort_phase s.wire.seen.last)) s))
     (raise 0x22 (set_connection Disconnected s))
 
 -- "Disconnect, when connected, drops command, FIFO, ATN and held ACK; no interrupt (house)." An ending goes with its bytes.
@@ -157,9 +155,9 @@ unfoldable pub select_and_transfer_begun : Command → State → State
 select_and_transfer_begun r s = pick (is_connected s.wire.connection) (resumed r s) (selecting r (from_disconnected s))
 
 -- the way of a phase: "Odd p comes in"
-abbrev pub way_of : Noted → Direction
-way_of NoPhase = Unfixed
-way_of (Was p) = pick (comes_in p) In Out
+abbrev pub way_of : Option Phase → Direction
+way_of None = Unfixed
+way_of (Some p) = pick (comes_in p) In Out
 
 -- Transfer Info begins, in the reported phase
 unfoldable pub transfer_info_begun : Bool → State → State

@@ -1,13 +1,12 @@
 -- The bus events in every state. Paper: the section "Bus events"; the order of checks is that of "The answers": 6, 2, 1, then 8
 -- (Requests only) or 0.
-use Rattle.std.specs.Prelude.{Bool, false, not, ℕ, ◌+◌, eqb, leb}
+use Rattle.std.specs.Prelude.{Bool, false, not, ℕ, ◌+◌, eqb, leb, None, Some}
 use Rattle.chip.specs.Choice.{pick, both, either}
 use Rattle.chip.specs.declared.State.{State}
 use Rattle.chip.specs.declared.Reply.{Reply}
 use Rattle.chip.specs.declared.Answer.{Answer}
 use Rattle.chip.specs.declared.Answer.TheVariants.{Done, Held, OutOfPlace, BadNumber, Blind, CommandIgnored, ReselectionIgnored, NoDataNow, Reported}
 use Rattle.chip.specs.declared.Connection.TheVariants.{Disconnected, Connected}
-use Rattle.chip.specs.declared.Noted.TheVariants.{NoPhase, Was}
 use Rattle.chip.specs.declared.Phase.{Phase}
 use Rattle.chip.specs.Phases.{phase_number, is_noted}
 use Rattle.chip.specs.Connections.{is_selecting, is_waiting, is_connected}
@@ -43,7 +42,7 @@ passed n s = pick (selects s) (selection_time n s) (done 0 s)
 
 -- a connection begins: no phase is reported, and no Request was answered since
 unfoldable pub connected : State → State
-connected s = set_connection Connected (set_reported NoPhase (set_last NoPhase s))
+connected s = set_connection Connected (set_reported None (set_last None s))
 
 -- "ATN set for 06 and 08"
 unfoldable pub answered_state : State → State
@@ -97,7 +96,7 @@ reselected lines s =
 unfoldable pub idle_request : Phase → State → Reply
 idle_request p s =
     pick (is_noted p s.wire.seen.reported) (held s)
-    (unless_interrupt s (reports (raise (0x88 + phase_number p) (set_reported (Was p) s))))
+    (unless_interrupt s (reports (raise (0x88 + phase_number p) (set_reported (Some p) s))))
 
 -- by the command that runs; a Select has done its work when connected
 unfoldable pub requested_running : Phase → ℕ → Bool → State → Reply
@@ -116,7 +115,7 @@ is_served s = both (is_connected s.wire.connection) (both (goes_on s.activity) (
 
 -- "the last Request answered Done or Reported since connection" is kept in mind for Abort
 abbrev pub remembered_by : Answer → Phase → Reply → Reply
-remembered_by (Done v) p r = says (Done v) (set_last (Was p) r.state)
+remembered_by (Done v) p r = says (Done v) (set_last (Some p) r.state)
 remembered_by Held p r = r
 remembered_by OutOfPlace p r = r
 remembered_by BadNumber p r = r
@@ -124,7 +123,7 @@ remembered_by Blind p r = r
 remembered_by CommandIgnored p r = r
 remembered_by ReselectionIgnored p r = r
 remembered_by NoDataNow p r = r
-remembered_by Reported p r = says Reported (set_last (Was p) r.state)
+remembered_by Reported p r = says Reported (set_last (Some p) r.state)
 
 unfoldable pub remembered : Phase → Reply → Reply
 remembered p r = remembered_by r.answer p r

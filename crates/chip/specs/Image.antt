@@ -1,18 +1,17 @@
 -- The image of a state: 54 bytes, of which the first 25 are registers 00 to 18h at their addresses (docs/IMAGE.md).
 -- Paper: "The state is lent as an image of one fixed length, one image per state, its form and field ranges written in docs/.
 -- Another length, or bytes that are no state's image, is Bad number."
-use Rattle.std.specs.Prelude.{Bool, List, [], ◌∷◌, ◌++◌, ℕ, ◌+◌, ◌-◌, ◌*◌, ◌/◌, ◌%◌, eqb, ltb, length, take, drop, get_or}
+use Rattle.std.specs.Prelude.{Bool, List, [], ◌∷◌, ◌++◌, ℕ, ◌+◌, ◌-◌, ◌*◌, ◌/◌, ◌%◌, eqb, ltb, length, take, drop, get_or, Option, None, Some}
 use Rattle.chip.specs.Choice.{pick, both}
 use Rattle.chip.specs.Fifo.{fifo_bytes, fifo_of, is_fifo}
 use Rattle.chip.specs.Lines.{bit}
 use Rattle.chip.specs.declared.State.{State}
 use Rattle.chip.specs.declared.Direction.{Direction}
 use Rattle.chip.specs.declared.Direction.TheVariants.{Unfixed, In, Out}
-use Rattle.chip.specs.declared.Noted.{Noted}
-use Rattle.chip.specs.declared.Noted.TheVariants.{NoPhase, Was}
 use Rattle.chip.specs.Phases.{phase_number, phase_of}
 use Rattle.chip.specs.Connections.{connection_number, connection_of, connection_count}
 use Rattle.chip.specs.Activity.{running_number, pending_number, code_to_come, activity_of, is_activity}
+use Rattle.chip.specs.declared.Phase.{Phase}
 
 -- how many bytes an image has
 abbrev pub image_length : ℕ
@@ -30,9 +29,9 @@ direction_byte In = 1
 direction_byte Out = 2
 
 -- a phase is one more than its number, no phase is 0
-abbrev pub noted_byte : Noted → ℕ
-noted_byte NoPhase = 0
-noted_byte (Was p) = phase_number p + 1
+abbrev pub noted_byte : Option Phase → ℕ
+noted_byte None = 0
+noted_byte (Some p) = phase_number p + 1
 
 -- bytes 0 to 2
 unfoldable pub head_bytes : State → List ℕ
@@ -77,8 +76,8 @@ image_of s = head_bytes s ++ (s.registers.descriptor.cdb ++ (middle_bytes s ++ f
 unfoldable pub direction_of : ℕ → Direction
 direction_of n = pick (eqb n 0) Unfixed (pick (eqb n 1) In Out)
 
-unfoldable pub noted_of : ℕ → Noted
-noted_of n = pick (eqb n 0) NoPhase (Was (phase_of (n - 1)))
+unfoldable pub noted_of : ℕ → Option Phase
+noted_of n = pick (eqb n 0) None (Some (phase_of (n - 1)))
 
 -- the state whose image the bytes are
 unfoldable pub state_of : List ℕ → State

@@ -1,10 +1,8 @@
 -- The eight phases. Paper: "Request phase p 0 to 7 (MSG, C/D, I/O as 4, 2, 1)"; "Odd p comes in."
-use Rattle.std.specs.Prelude.{Bool, true, false, ℕ, eqb}
+use Rattle.std.specs.Prelude.{Bool, true, false, ℕ, eqb, Option, None, Some}
 use Rattle.chip.specs.Choice.{pick}
 use Rattle.chip.specs.declared.Phase.{Phase}
 use Rattle.chip.specs.declared.Phase.TheVariants.{DataOut, DataIn, CommandOut, StatusIn, UnspecifiedOut, UnspecifiedIn, MessageOut, MessageIn}
-use Rattle.chip.specs.declared.Noted.{Noted}
-use Rattle.chip.specs.declared.Noted.TheVariants.{NoPhase, Was}
 
 abbrev pub phase_number : Phase → ℕ
 phase_number DataOut = 0
@@ -48,6 +46,6 @@ abbrev pub is_message_in : Phase → Bool
 is_message_in p = same_phase p MessageIn
 
 -- p is the phase kept in mind
-abbrev pub is_noted : Phase → Noted → Bool
-is_noted p NoPhase = false
-is_noted p (Was q) = same_phase p q
+abbrev pub is_noted : Phase → Option Phase → Bool
+is_noted p None = false
+is_noted p (Some q) = same_phase p q

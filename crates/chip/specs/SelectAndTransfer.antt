@@ -1,5 +1,5 @@
 -- Select-And-Transfer by its phase register, and what a Free does to it. Paper: the section "Select-And-Transfer (001)".
-use Rattle.std.specs.Prelude.{Bool, true, false, ℕ, ◌+◌, ◌-◌, ◌/◌, eqb, ltb, get_or}
+use Rattle.std.specs.Prelude.{Bool, true, false, ℕ, ◌+◌, ◌-◌, ◌/◌, eqb, ltb, get_or, None, Some}
 use Rattle.chip.specs.Choice.{pick, both, either}
 use Rattle.chip.specs.declared.State.{State}
 use Rattle.chip.specs.declared.Reply.{Reply}
@@ -10,7 +10,6 @@ use Rattle.chip.specs.declared.Direction.{Direction}
 use Rattle.chip.specs.declared.Direction.TheVariants.{Unfixed, In, Out}
 use Rattle.chip.specs.declared.Phase.{Phase}
 use Rattle.chip.specs.declared.Phase.TheVariants.{DataOut, DataIn, CommandOut, StatusIn, UnspecifiedOut, UnspecifiedIn, MessageOut, MessageIn}
-use Rattle.chip.specs.declared.Noted.TheVariants.{NoPhase, Was}
 use Rattle.chip.specs.declared.Activity.TheVariants.{Runs}
 use Rattle.chip.specs.declared.Connection.TheVariants.{Waiting}
 use Rattle.chip.specs.State.{set_fifo, set_ack, set_atn, set_reported, set_phase, set_lun, set_direction, set_activity, set_connection}
@@ -62,7 +61,7 @@ stage_of identifies phase n =
 
 -- "Anything else is Reported, ending with 48h+p, and not taken, other messages included (4Fh)"
 unfoldable pub unexpected : Phase → State → Reply
-unexpected p s = reports (ending_with (0x48 + phase_number p) (set_reported (Was p) s))
+unexpected p s = reports (ending_with (0x48 + phase_number p) (set_reported (Some p) s))
 
 -- 10h: "with 08, Message Out takes 80h + LUN (0Fh bits 2 to 0), plus 40h if ER; ATN clears; 20h"
 unfoldable pub send_identify : Phase → State → Reply
@@ -114,7 +113,7 @@ take_status b bad s = unless_halted bad s (done b (set_phase 0x50 (set_lun b (ou
 unfoldable pub take_save : Bool → State → Reply
 take_save bad s =
     unless_halted bad s
-    (done 0x02 (ending_with 0x21 (set_reported NoPhase (set_ack true (set_phase 0x41 (parity_noted bad s))))))
+    (done 0x02 (ending_with 0x21 (set_reported None (set_ack true (set_phase 0x41 (parity_noted bad s))))))
 
 -- "04 gives 42h" (Disconnect)
 unfoldable pub take_disconnect : Bool → State → Reply
@@ -158,7 +157,7 @@ take_identify p b bad s =
 unfoldable pub completed : Bool → State → Reply
 completed bad s =
     unless_halted bad s
-    (done 0x00 (ending_with 0x16 (set_reported NoPhase (set_phase 0x60 (parity_noted bad s)))))
+    (done 0x00 (ending_with 0x16 (set_reported None (set_phase 0x60 (parity_noted bad s)))))
 
 unfoldable pub take_complete : Phase → ℕ → Bool → State → Reply
 take_complete p b bad s = pick (both (is_message_in p) (eqb b 0x00)) (completed bad s) (unexpected p s)
@@ -230,5 +229,5 @@ ack_after_resume s = both (eqb s.registers.descriptor.phase 0x46) s.wire.handsha
 unfoldable pub resumed : Command → State → State
 resumed r s =
     pick (eqb s.registers.descriptor.phase 0x60)
-    (ending_with 0x16 (set_reported NoPhase (set_ack (ack_after_resume s) (set_activity (Runs r) (loaded s)))))
+    (ending_with 0x16 (set_reported None (set_ack (ack_after_resume s) (set_activity (Runs r) (loaded s)))))
     (set_ack (ack_after_resume s) (set_activity (Runs r) (loaded s)))

@@ -1,7 +1,7 @@
 -- The state: the fresh one, and a setter for each field that a rule changes.
 -- Paper: "A fresh state is all zero, Disconnected, nothing pending."
 -- A part has few fields, and its own setters (`with..`) are the only places that list them; a field more is a change to its part here.
-use Rattle.std.specs.Prelude.{Bool, false, List, replicate, ℕ}
+use Rattle.std.specs.Prelude.{Bool, false, List, replicate, ℕ, Option, None}
 use Rattle.chip.specs.declared.State.{State}
 use Rattle.chip.specs.declared.Registers.{Registers}
 use Rattle.chip.specs.declared.Setup.{Setup}
@@ -19,9 +19,8 @@ use Rattle.chip.specs.declared.Activity.{Activity}
 use Rattle.chip.specs.declared.Activity.TheVariants.{Idle}
 use Rattle.chip.specs.declared.Direction.{Direction}
 use Rattle.chip.specs.declared.Direction.TheVariants.{Unfixed}
-use Rattle.chip.specs.declared.Noted.{Noted}
-use Rattle.chip.specs.declared.Noted.TheVariants.{NoPhase}
 use Rattle.chip.specs.Fifo.{empty}
+use Rattle.chip.specs.declared.Phase.{Phase}
 
 -- registers 01 to 16h zero, register 00 as given
 abbrev pub cleared : ℕ → Registers
@@ -44,7 +43,7 @@ apart own =
     record {
       connection = Disconnected;
       handshake = record { atn = false; ack = false };
-      seen = record { reported = NoPhase; last = NoPhase };
+      seen = record { reported = None; last = None };
       identity = own;
       elapsed = 0;
     }
@@ -222,8 +221,8 @@ set_ack x s = set_wire (with_handshake (record { atn = s.wire.handshake.atn; ack
 abbrev pub set_seen : Seen → State → State
 set_seen x s = set_wire (with_seen x s.wire) s
 
-abbrev pub set_reported : Noted → State → State
+abbrev pub set_reported : Option Phase → State → State
 set_reported x s = set_seen (record { reported = x; last = s.wire.seen.last }) s
 
-abbrev pub set_last : Noted → State → State
+abbrev pub set_last : Option Phase → State → State
 set_last x s = set_seen (record { reported = s.wire.seen.reported; last = x }) s

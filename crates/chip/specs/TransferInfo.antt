@@ -1,10 +1,9 @@
 -- Transfer Info, and parity. Paper: the section "Transfer Info (001)".
-use Rattle.std.specs.Prelude.{Bool, true, false, not, ℕ, ◌+◌}
+use Rattle.std.specs.Prelude.{Bool, true, false, not, ℕ, ◌+◌, None, Some}
 use Rattle.chip.specs.Choice.{pick, both, either}
 use Rattle.chip.specs.declared.State.{State}
 use Rattle.chip.specs.declared.Reply.{Reply}
 use Rattle.chip.specs.declared.Phase.{Phase}
-use Rattle.chip.specs.declared.Noted.TheVariants.{NoPhase, Was}
 use Rattle.chip.specs.State.{set_fifo, set_pe, set_ack, set_atn, set_reported}
 use Rattle.chip.specs.Answers.{done, held, reports}
 use Rattle.chip.specs.Phases.{phase_number, comes_in, is_message_out, is_message_in, is_noted}
@@ -16,7 +15,7 @@ use Rattle.chip.specs.Interrupts.{ending_with}
 -- "Bad parity on any byte that would be taken in sets PE; with HSP the byte is not taken or counted, ACK is held, answer 8,
 -- ending with 43h." 43h leaves no phase reported.
 unfoldable pub halted : State → Reply
-halted s = reports (ending_with 0x43 (set_reported NoPhase (set_ack true (set_pe true s))))
+halted s = reports (ending_with 0x43 (set_reported None (set_ack true (set_pe true s))))
 
 -- r, the reply where the byte is taken in, unless its parity halts the transfer
 unfoldable pub unless_halted : Bool → State → Reply → Reply
@@ -44,7 +43,7 @@ taken_in b bad s = lowered (set_fifo (push b s.fifo) (parity_noted bad s))
 unfoldable pub transfer_info_taken : Phase → ℕ → Bool → State → Reply
 transfer_info_taken p b bad s =
     pick (both (is_message_in p) (is_last s))
-    (done b (ending_with 0x20 (set_reported NoPhase (set_ack true (taken_in b bad s)))))
+    (done b (ending_with 0x20 (set_reported None (set_ack true (taken_in b bad s)))))
     (done b (taken_in b bad s))
 
 -- "Held if it is .. full"
@@ -57,7 +56,7 @@ over_code p s = pick (none_left s) 0x18 0x48 + phase_number p
 
 -- "With none left, or with another phase, it is Reported"
 unfoldable pub transfer_info_over : Phase → State → Reply
-transfer_info_over p s = reports (ending_with (over_code p s) (set_reported (Was p) s))
+transfer_info_over p s = reports (ending_with (over_code p s) (set_reported (Some p) s))
 
 -- "A Request of the phase under transfer with bytes left .." The phase under transfer is the reported one: the command began
 -- with it, and the next report ends the command.

@@ -3,13 +3,13 @@
 #![tactic(auto)]
 
 // A bus identity, 0 to 7: the data sheet's bus ID.
-#[derive(Clone, Copy)]
+#[derive(Clone, Copy, PartialEq, Eq)]
 pub struct Identity {
     pub number: u8,
 }
 
 // A logical unit number, 0 to 7: the data sheet's LUN. It has a type of its own, so that it is never taken for a bus identity.
-#[derive(Clone, Copy)]
+#[derive(Clone, Copy, PartialEq, Eq)]
 pub struct Lun {
     pub number: u8,
 }
@@ -29,7 +29,7 @@ pub enum Answer {
 }
 
 // What the bus and we are to each other.
-#[derive(Clone, Copy)]
+#[derive(Clone, Copy, PartialEq, Eq)]
 pub enum Connection {
     Disconnected,
     Selecting,
@@ -37,10 +37,10 @@ pub enum Connection {
     Connected,
 }
 
-// The Level II commands that run from call to call.
-#[derive(Clone, Copy)]
+// The Level II commands that run from call to call. In the image 0 stands for none.
+#[derive(Clone, Copy, PartialEq, Eq)]
 pub enum Command {
-    SelectWithAtn,
+    SelectWithAtn = 1,
     SelectWithoutAtn,
     SelectAndTransferWithAtn,
     SelectAndTransferWithoutAtn,
@@ -60,7 +60,7 @@ pub enum Activity {
 }
 
 // The way that data goes, as far as a command has fixed it.
-#[derive(Clone, Copy)]
+#[derive(Clone, Copy, PartialEq, Eq)]
 pub enum Direction {
     Unfixed,
     In,
@@ -68,7 +68,7 @@ pub enum Direction {
 }
 
 // The phase of a Request, 0 to 7: MSG, C/D and I/O as 4, 2 and 1.
-#[derive(Clone, Copy)]
+#[derive(Clone, Copy, PartialEq, Eq)]
 pub enum Phase {
     DataOut,
     DataIn,
@@ -80,11 +80,13 @@ pub enum Phase {
     MessageIn,
 }
 
-// A phase that the controller keeps in mind, or none.
+// What the Target asks for: a phase, the byte that it puts on the data lines (of no meaning where data goes out), and whether the parity of
+// that byte is bad.
 #[derive(Clone, Copy)]
-pub enum Noted {
-    NoPhase,
-    Was(Phase),
+pub struct Request {
+    pub phase: Phase,
+    pub byte: u8,
+    pub bad: bool,
 }
 
 // What a driver sets up: Own ID (00), Control (01), Timeout Period (02), Synchronous Transfer (11h).
@@ -147,11 +149,11 @@ pub struct Handshake {
     pub ack: bool,
 }
 
-// The phases kept in mind: the reported one, and that of the last Request answered Done or Reported since connection.
+// The phases kept in mind, or none: the reported one, and that of the last Request answered Done or Reported since connection.
 #[derive(Clone, Copy)]
 pub struct Seen {
-    pub reported: Noted,
-    pub last: Noted,
+    pub reported: Option<Phase>,
+    pub last: Option<Phase>,
 }
 
 // The bus: the connection, the lines and phases above, our identity, and the units of time that have added up while selecting.
@@ -182,14 +184,14 @@ pub struct Reply {
 }
 
 // The level of a command (001, Command List).
-#[derive(Clone, Copy)]
+#[derive(Clone, Copy, PartialEq, Eq)]
 pub enum Level {
     One,
     Two,
 }
 
 // The connections in which a command is valid.
-#[derive(Clone, Copy)]
+#[derive(Clone, Copy, PartialEq, Eq)]
 pub enum Place {
     Nowhere,
     Anywhere,

@@ -6,16 +6,16 @@ ghost use Rattle.chip.specs.Connections.{is_connected};
 ghost use Rattle.chip.specs.Interrupts.{busy};
 ghost use Rattle.chip.specs.SelectAndTransfer.{has_size, is_resumable};
 
-use chip::{Entry, Noted, State};
+use chip::{Entry, Phase, State};
 use select_and_transfer::{resume, stage};
 use state::{activity, connections, get, set};
 
-fn is_some(n: Noted) -> bool
+fn is_some(n: Option<Phase>) -> bool
     ensures { result ≡ is_some n }
 {
     match n {
-        Noted::NoPhase => false,
-        Noted::Was(_) => true,
+        None => false,
+        Some(_) => true,
     }
 }
 

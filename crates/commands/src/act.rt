@@ -2,7 +2,7 @@
 ghost use Rattle.std.specs.Prelude.{◌≡◌};
 ghost use Rattle.chip.specs.Commands.{abort_phase, aborted, disconnected, transfer_info_begun, reset, selecting, select_and_transfer_begun, way_of};
 
-use chip::{Activity, Command, Connection, Direction, Noted, Phase, State, Status};
+use chip::{Activity, Command, Connection, Direction, Phase, State, Status};
 use select_and_transfer::resume;
 use state::{connections, fresh, get, set};
 
@@ -32,12 +32,12 @@ pub fn reset(b: u8, s: State) -> State
     }
 }
 
-fn abort_phase(n: Noted) -> Phase
+fn abort_phase(n: Option<Phase>) -> Phase
     ensures { result ≡ abort_phase n }
 {
     match n {
-        Noted::NoPhase => Phase::MessageOut,
-        Noted::Was(p) => p,
+        None => Phase::MessageOut,
+        Some(p) => p,
     }
 }
 
@@ -47,7 +47,7 @@ pub fn aborted(s: State) -> State
 {
     if connections::is_connected(s) {
         let p = abort_phase(get::last(s));
-        return interrupts::ending_with(phases::coded(0x28, p), set::reported(s, Noted::Was(p)));
+        return interrupts::ending_with(phases::coded(0x28, p), set::reported(s, Some(p)));
     }
     interrupts::raise(0x22, set::connection(s, Connection::Disconnected))
 }
@@ -86,7 +86,7 @@ pub fn select_and_transfer_begun(r: Command, s: State) -> State
 
 #[tactic(auto, unfolding(chip::specs::Choice::pick))]
 fn direction_of(p: Phase) -> Direction
-    ensures { result ≡ way_of (Noted.Was p) }
+    ensures { result ≡ way_of (Some p) }
 {
     if phases::comes_in(p) {
         return Direction::In;
@@ -94,12 +94,12 @@ fn direction_of(p: Phase) -> Direction
     Direction::Out
 }
 
-fn way_of(n: Noted) -> Direction
+fn way_of(n: Option<Phase>) -> Direction
     ensures { result ≡ way_of n }
 {
     match n {
-        Noted::NoPhase => Direction::Unfixed,
-        Noted::Was(p) => direction_of(p),
+        None => Direction::Unfixed,
+        Some(p) => direction_of(p),
     }
 }
 

@@ -1,13 +1,14 @@
 -- Stores into an image, one after the other: after each, the bytes are the image of the state so far.
 -- `At l t`: the bytes l are the image of t. `at_start`: of the state that they say. `put-..-at`: a store of image::store.
+use Rattle.std.specs.Prelude.{Option}
 use Rattle.std.proofs.Common.{◌≡◌, ℕ, ◌/◌, ◌%◌, true, eqb, List, ◌++◌, length, take, set, sym, ap, ◌∙◌, arith, length-append, eq-eqb}
 use Rattle.chip.specs.Choice.{pick}
 use Rattle.chip.specs.declared.State.{State}
 use Rattle.chip.specs.declared.Fifo.{Fifo}
-use Rattle.chip.specs.declared.Noted.{Noted}
 use Rattle.chip.specs.Fifo.{fifo_bytes, Whole}
 use Rattle.chip.specs.State.{fresh, set_pointer, set_fifo, set_count, set_last}
 use Rattle.chip.specs.Image.{image_of, state_of, noted_byte, image_length, fifo_place}
+use Rattle.chip.specs.declared.Phase.{Phase}
 use Rattle.chip.proofs.FifoLaws.{fifo_length_lem}
 use Rattle.chip.proofs.ImagePlaces.{head_length, middle_length}
 use Rattle.image.specs.IsImage.{IsImage}
@@ -45,7 +46,7 @@ module _ {l : List ℕ} {t : State} (a : At l t) where
         fifo = a.fifo;
       }
 
-  pub put_last_at : (after : List ℕ) (v : ℕ) (p : Noted) → after ≡ pick (eqb (length l) image_length) (set l 37 v) l → v ≡ noted_byte p
+  pub put_last_at : (after : List ℕ) (v : ℕ) (p : Option Phase) → after ≡ pick (eqb (length l) image_length) (set l 37 v) l → v ≡ noted_byte p
       → At after (set_last p t)
   put_last_at after v p e n =
       record {

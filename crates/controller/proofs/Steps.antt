@@ -1,5 +1,6 @@
 -- What the stores of each call served in place (in_place.rt) leave: the call's own reply, by chip's proofs/Moves.antt. The bytes l are
 -- an image; t is their state as the code reads it, and `after..` are the bytes after each store.
+use Rattle.std.specs.Prelude.{Some}
 use Rattle.std.proofs.Common.{◌≡◌, ℕ, ◌+◌, ◌-◌, ◌*◌, ◌%◌, ◌<◌, ◌≤◌, Bool, true, false, eqb, ltb, List, ◌++◌, length, get_or, take, set, sym, refl, ap, ◌∙◌, subst, zero-add, arith, length-set, lt-ltb, eq-eqb, ne_eqb}
 use Rattle.chip.specs.Choice.{pick, both}
 use Rattle.chip.specs.Calls.{is_set}
@@ -9,7 +10,6 @@ use Rattle.chip.specs.declared.Answer.TheVariants.{Done, Held, ReselectionIgnore
 use Rattle.chip.specs.declared.Direction.TheVariants.{In}
 use Rattle.chip.specs.declared.Phase.{Phase}
 use Rattle.chip.specs.declared.Phase.TheVariants.{DataIn, DataOut}
-use Rattle.chip.specs.declared.Noted.TheVariants.{Was}
 use Rattle.chip.specs.Answers.{done}
 use Rattle.chip.specs.Entries.{result_of}
 use Rattle.chip.specs.Fifo.{is_empty, has_room, front, pop, push, fifo_bytes, Goes}
@@ -206,7 +206,7 @@ module _ (l : List ℕ) (o : IsImage l) where
       let v' : v ≡ ((state_of l).registers.count - 1) % 256 = h ∙ ap (λ (x : State). (x.registers.count - 1) % 256) i in
       let two = put_low_at one after₂ ((state_of l).registers.count - 1) v v' g (omega (arith, n)) in
       replied _ _ _ _ (byte_taken (state_of l) d b r)
-      (record { number = sym (zero-add _); image = (put_last_at two after₃ 2 (Was DataIn) k refl).image })
+      (record { number = sym (zero-add _); image = (put_last_at two after₃ 2 (Some DataIn) k refl).image })
 
   pub sent_made : (b v : ℕ) (bad : Bool) (t : State) (x : ℕ) (after after₂ after₃ : List ℕ) → sends_data (state_of l) ≡ true
       → is_empty (state_of l).fifo ≡ false
@@ -225,7 +225,7 @@ module _ (l : List ℕ) (o : IsImage l) where
       replied _ _ _ _ (byte_sent (state_of l) d b bad r)
       (record {
         number = ap (λ (x : ℕ). 256 * x) (oldest x y) ∙ sym (zero-add _);
-        image = (put_last_at two after₃ 1 (Was DataOut) k refl).image;
+        image = (put_last_at two after₃ 1 (Some DataOut) k refl).image;
       })
 
   -- a test of the state as the code reads it

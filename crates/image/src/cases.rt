@@ -3,7 +3,7 @@ ghost use Rattle.std.specs.Prelude.{◌≡◌};
 ghost use Rattle.chip.specs.Lines.{bit};
 ghost use Rattle.chip.specs.Image.{direction_byte, direction_of, noted_byte, noted_of};
 
-use chip::{Direction, Noted};
+use chip::{Direction, Phase};
 
 pub(crate) fn bit_of(b: bool) -> u8
     ensures { result ≡ bit b }
@@ -34,21 +34,21 @@ pub(crate) fn direction_of(n: u8) -> Direction
     Direction::Out
 }
 
-pub(crate) fn noted_byte(p: Noted) -> u8
+pub(crate) fn noted_byte(p: Option<Phase>) -> u8
     ensures { result ≡ noted_byte p }
 {
     match p {
-        Noted::NoPhase => 0,
-        Noted::Was(phase) => phases::phase_number(phase) + 1,
+        None => 0,
+        Some(phase) => phases::phase_number(phase) + 1,
     }
 }
 
 #[tactic(auto, unfolding(chip::specs::Image::noted_of, chip::specs::Choice::pick))]
-pub(crate) fn noted_of(n: u8) -> Noted
+pub(crate) fn noted_of(n: u8) -> Option<Phase>
     ensures { result ≡ noted_of n }
 {
     if n == 0 {
-        return Noted::NoPhase;
+        return None;
     }
-    Noted::Was(phases::phase_of(n - 1))
+    Some(phases::phase_of(n - 1))
 }

@@ -1,5 +1,6 @@
 -- The bus events tell no places.
 --   time_passes answers reselects requests frees   Time, Answer, Reselection, Request and Free
+use Rattle.std.specs.Prelude.{Option}
 use mathlib.Core.Path.{ap, subst}
 use mathlib.Core.Bool.{Bool}
 use Prim.Native.Nat.{ℕ}
@@ -9,7 +10,6 @@ use Rattle.chip.specs.Events.{timed_out, selection_time, selects, passed, connec
 use Rattle.chip.specs.declared.Answer.{Answer}
 use Rattle.chip.specs.declared.Answer.TheVariants.{Done, Held, OutOfPlace, BadNumber, Blind, CommandIgnored, ReselectionIgnored, NoDataNow, Reported}
 use Rattle.chip.specs.declared.Fifo.{Fifo}
-use Rattle.chip.specs.declared.Noted.{Noted}
 use Rattle.chip.specs.declared.Phase.{Phase}
 use Rattle.chip.specs.declared.Reply.{Reply}
 use Rattle.chip.specs.declared.State.{State}
@@ -20,7 +20,7 @@ use Rattle.keeping.proofs.SelectAndTransfer.{select_and_transfer_request_lem, se
 
 -- the Request that Abort keeps in mind
 
-noted_last : (x : Noted) {s t : State} → Alike s t → Alike (set_last x s) (set_last x t)
+noted_last : (x : Option Phase) {s t : State} → Alike s t → Alike (set_last x s) (set_last x t)
 noted_last x h = record { rest = ap (set_last x) h.rest; fifo = h.fifo }
 
 remembers_by : (x : Answer) (p : Phase) {a b : Reply} → AlikeReply a b → AlikeReply (remembered_by x p a) (remembered_by x p b)

@@ -5,6 +5,7 @@
 --   loses_refused                                                                     by TellsNoPlaces: two alike states do not stay so
 --   dims_moved                                                                        by AnyKeeping
 --   calls_coming n   calls from a fresh controller that lead to a Transfer Info of Data In with the count n, the pointer at 19h
+use Rattle.std.specs.Prelude.{Some}
 use mathlib.Core.Path.{◌≡◌, refl, ap, sym}
 use mathlib.Core.List.{List, [], ◌∷◌, ◌++◌}
 use Prim.Native.Nat.{ℕ}
@@ -22,7 +23,6 @@ use Rattle.chip.specs.declared.Command.TheVariants.{TransferInfo}
 use Rattle.chip.specs.declared.Connection.TheVariants.{Connected}
 use Rattle.chip.specs.declared.Direction.TheVariants.{In}
 use Rattle.chip.specs.declared.Fifo.{Fifo}
-use Rattle.chip.specs.declared.Noted.TheVariants.{Was}
 use Rattle.chip.specs.declared.Phase.TheVariants.{DataIn}
 use Rattle.chip.specs.declared.State.{State}
 use Rattle.chip.proofs.Before.{kept_as_before}
@@ -161,7 +161,7 @@ glows_refused h =
 
 -- .. under a Transfer Info of Data In
 abbrev coming : Fifo → State
-coming q = set_connection Connected (set_activity (Runs TransferInfo) (set_reported (Was DataIn) (set_count 2 (over q))))
+coming q = set_connection Connected (set_activity (Runs TransferInfo) (set_reported (Some DataIn) (set_count 2 (over q))))
 
 pub loses_refused : TellsNoPlaces loses → ⊥
 unfolding calls loses

@@ -14,7 +14,6 @@ ghost use Rattle.chip.specs.Lines.{
   code_of,
   own_identity,
   destination,
-  same_identity,
   lun_of,
   identify,
   line_of,
@@ -107,13 +106,6 @@ pub fn destination(s: State) -> Identity
     }
 }
 
-#[tactic(auto, unfolding(chip::specs::Lines::same_identity))]
-pub fn same_identity(i: Identity, j: Identity) -> bool
-    ensures { result ≡ same_identity i j }
-{
-    i.number == j.number
-}
-
 #[tactic(auto, unfolding(chip::specs::Lines::lun_of))]
 pub fn lun_of(s: State) -> Lun
     ensures { result ≡ lun_of s }
@@ -139,15 +131,14 @@ pub fn line_of(i: Identity) -> u8
 fn ones(lines: u8) -> u32
     ensures { result ≡ ones lines }
 {
-    u32::count_ones(lines as u32)
+    lines.count_ones()
 }
 
 #[tactic(auto, unfolding(chip::specs::Lines::qualifies, chip::specs::Choice::both, chip::specs::Choice::either))]
 pub fn qualifies(lines: u8, s: State) -> bool
     ensures { result ≡ qualifies lines s }
 {
-    let n = ones(lines);
-    er(s) & (is_on(line_of(s.wire.identity), lines) & ((n == 1) | (n == 2)))
+    er(s) && is_on(line_of(s.wire.identity), lines) && matches!(ones(lines), 1 | 2)
 }
 
 #[tactic(auto, unfolding(chip::specs::Lines::are_two))]
@@ -157,11 +148,11 @@ pub fn are_two(lines: u8) -> bool
     ones(lines) == 2
 }
 
-// The mask makes the 32 zeros of no line 0.
+// The mask makes the eight zeros of no line 0.
 fn lowest(lines: u8) -> u8
     ensures { result ≡ lowest lines }
 {
-    (u32::trailing_zeros(lines as u32) & 7) as u8
+    (lines.trailing_zeros() & 7) as u8
 }
 
 fn without(k: u8, lines: u8) -> u8

@@ -2,6 +2,7 @@
 --   commanded_kept   of every command, from every shape
 --   Rest             no command runs and nothing is pending
 --   refused          where two tests do not both hold and the second does, the first does not
+use Rattle.std.specs.Prelude.{Option}
 use mathlib.Core.Path.{◌≡◌, refl, sym, ◌∙◌}
 use mathlib.Core.Bool.{Bool, true, false, not, true≢false, false≢true}
 use Prim.Native.Nat.{ℕ, ◌<◌}
@@ -25,13 +26,13 @@ use Rattle.chip.specs.declared.Activity.TheVariants.{Idle}
 use Rattle.chip.specs.declared.Command.TheVariants.{SelectWithAtn, SelectWithoutAtn, SelectAndTransferWithAtn, SelectAndTransferWithoutAtn}
 use Rattle.chip.specs.declared.Connection.{Connection}
 use Rattle.chip.specs.declared.Direction.{Direction}
-use Rattle.chip.specs.declared.Noted.{Noted}
 use Rattle.chip.proofs.Cases.{by_pick, by_case, both_first, both_second, either_last}
 use Rattle.chip.specs.Interrupts.{is_outgoing}
 use Rattle.reached.specs.Sound.{Placed, unasked, told, apart, joined, unfixed, none, Shape, idle, selects, waits, selects_and_transfers, transfers_info, ending, read_out, SelectsAndTransfers, with_atn, without_atn, select_and_transfer, transfer_info, Selects, six, seven}
 use Rattle.chip.specs.Fifo.{Whole}
 use Rattle.chip.proofs.FifoLaws.{keeps_bytes}
 use Rattle.chip.specs.Translate.{translated}
+use Rattle.chip.specs.declared.Phase.{Phase}
 use Rattle.chip.proofs.Translate.{by_translation}
 use Rattle.reached.proofs.Shapes.{Numbered, Good, so, Fine, being, clash, empty_way, raised, ended, selects_and_transfers_run, moves_run, selects_run, transfers_selects}
 
@@ -41,7 +42,7 @@ data Rest : Activity → Connection → Direction → Fifo → Bool → Bool →
   rest : {c : Connection} {d : Direction} {q : Fifo} {atn ack : Bool} → is_outgoing d ≡ false → is_empty q ≡ true → Placed c atn ack
       → Rest Idle c d q atn ack
 
-resting : {single : Bool} {n : ℕ} {x : Activity} {c : Connection} {d : Direction} {q : Fifo} {atn ack : Bool} {w : Noted}
+resting : {single : Bool} {n : ℕ} {x : Activity} {c : Connection} {d : Direction} {q : Fifo} {atn ack : Bool} {w : Option Phase}
     → Shape single n x c d q atn ack w → is_interrupt x ≡ false → is_running x ≡ false → Rest x c d q atn ack
 resting (idle unasked o h l) i b = rest o h l
 resting (idle told o h l) i b = absurd (true≢false i)
@@ -53,7 +54,7 @@ resting (ending k h l) i b = clash (moves_run k) b
 resting (read_out k h) i b = clash (selects_and_transfers_run k) b
 
 -- ATN and held ACK may be anything when connected
-lines : {single : Bool} {n : ℕ} {x : Activity} {c : Connection} {d : Direction} {q : Fifo} {atn ack : Bool} {w : Noted} (i j : Bool)
+lines : {single : Bool} {n : ℕ} {x : Activity} {c : Connection} {d : Direction} {q : Fifo} {atn ack : Bool} {w : Option Phase} (i j : Bool)
     → Shape single n x c d q atn ack w → is_connected c ≡ true → Shape single n x c d q i j w
 lines i j (idle e o h apart) f = absurd (false≢true f)
 lines i j (idle e o h joined) f = idle e o h joined
@@ -66,7 +67,7 @@ lines i j (ending k h joined) f = ending k h joined
 lines i j (read_out k h) f = absurd (false≢true f)
 
 module _ (s : State) (n : Numbered s) where
-  abort : {x : Activity} {c : Connection} {d : Direction} {q : Fifo} {atn ack : Bool} {w : Noted}
+  abort : {x : Activity} {c : Connection} {d : Direction} {q : Fifo} {atn ack : Bool} {w : Option Phase}
       → Whole q → Shape s.transfer.single s.registers.count x c d q atn ack w → goes_on x ≡ true
       → Good (aborted (being x c d q atn ack w s))
   unfolding aborted
@@ -81,14 +82,14 @@ module _ (s : State) (n : Numbered s) where
   abort u (read_out k h) f = absurd (false≢true f)
 
   select : (y : Command) → Selects y
-      → {x : Activity} {c : Connection} {d : Direction} {q : Fifo} {atn ack : Bool} (w : Noted)
+      → {x : Activity} {c : Connection} {d : Direction} {q : Fifo} {atn ack : Bool} (w : Option Phase)
       → Whole q → Rest x c d q atn ack → is_disconnected c ≡ true → Good (selecting y (being x c d q atn ack w s))
   unfolding selecting
   select x k w u (rest o h apart) e = so _ n u (selects k o h)
   select x k w u (rest o h joined) e = absurd (false≢true e)
 
   begin : (y : Command) → SelectsAndTransfers y
-      → {x : Activity} {c : Connection} {d : Direction} {q : Fifo} {atn ack : Bool} (w : Noted)
+      → {x : Activity} {c : Connection} {d : Direction} {q : Fifo} {atn ack : Bool} (w : Option Phase)
       → Whole q → Rest x c d q atn ack → Good (select_and_transfer_begun y (being x c d q atn ack w s))
   unfolding select_and_transfer_begun resumed selecting from_disconnected loaded is_empty
   begin x k w u (rest o h apart) =
@@ -100,7 +101,7 @@ module _ (s : State) (n : Numbered s) where
       (so _ n keeps_bytes.begins_whole (selects_and_transfers k (unfixed refl))))
       (λ e. absurd (true≢false e))
 
-  inform : (single : Bool) {x : Activity} {c : Connection} {d : Direction} {q : Fifo} {atn ack : Bool} (w : Noted)
+  inform : (single : Bool) {x : Activity} {c : Connection} {d : Direction} {q : Fifo} {atn ack : Bool} (w : Option Phase)
       → Whole q → Rest x c d q atn ack → is_connected c ≡ true → Good (transfer_info_begun single (being x c d q atn ack w s))
   unfolding transfer_info_begun loaded_for_transfer_info is_empty
   inform single w u (rest o h apart) e = absurd (false≢true e)
@@ -113,7 +114,7 @@ module _ (s : State) (n : Numbered s) where
       })
       keeps_bytes.begins_whole (transfers_info (empty_way (way_of w) refl) refl)
 
-  translate : {x : Activity} {c : Connection} {d : Direction} {q : Fifo} {atn ack : Bool} (w : Noted)
+  translate : {x : Activity} {c : Connection} {d : Direction} {q : Fifo} {atn ack : Bool} (w : Option Phase)
       → Whole q → Rest x c d q atn ack → Good (translated (being x c d q atn ack w s))
   translate w u (rest o h l) =
       by_translation Good _ λ k r long.
@@ -141,13 +142,13 @@ refused false y e h = refl
 
 -- 40h is raised where no command runs
 forty_shape : (s : State) → Numbered s → (b : ℕ)
-    → {x : Activity} {c : Connection} {d : Direction} {q : Fifo} {atn ack : Bool} (w : Noted)
+    → {x : Activity} {c : Connection} {d : Direction} {q : Fifo} {atn ack : Bool} (w : Option Phase)
     → Whole q → Rest x c d q atn ack → Good (interrupt 0x40 (accepted b (being x c d q atn ack w s)))
 unfolding accepted
 forty_shape s n b w u (rest o h l) = so _ n u (idle told o h l)
 
 module _ (s : State) (n : Numbered s) (k : ℕ) (single : Bool) where
-  carried_out_lem : {x : Activity} {a : Connection} {d : Direction} {q : Fifo} {atn ack : Bool} {w : Noted}
+  carried_out_lem : {x : Activity} {a : Connection} {d : Direction} {q : Fifo} {atn ack : Bool} {w : Option Phase}
       → Whole q → Shape s.transfer.single s.registers.count x a d q atn ack w → is_interrupt x ≡ false → is_place (entry_of k).place a ≡ true
       → (is_two (entry_of k).level ≡ true → is_running x ≡ false)
       → (eqb k 0x01 ≡ true → goes_on x ≡ true)

@@ -1,5 +1,6 @@
 -- The other bus events keep the facts.
 --   time_kept, answer_kept, reselection_kept, free_kept   of each event, from every shape
+use Rattle.std.specs.Prelude.{Option}
 use mathlib.Core.Path.{◌≡◌, refl}
 use mathlib.Core.Bool.{Bool, false, true≢false, false≢true, true}
 use Prim.Native.Nat.{ℕ}
@@ -17,17 +18,17 @@ use Rattle.chip.specs.declared.Command.{Command}
 use Rattle.chip.specs.declared.Connection.{Connection}
 use Rattle.chip.specs.declared.Connection.TheVariants.{Connected}
 use Rattle.chip.specs.declared.Direction.{Direction}
-use Rattle.chip.specs.declared.Noted.{Noted}
 use Rattle.chip.proofs.Cases.{by_pick, by_case, both_first}
 use Rattle.reached.specs.Sound.{unasked, told, apart, joined, Way, Drained, none, Shape, idle, selects, waits, selects_and_transfers, transfers_info, ending, read_out, SelectsAndTransfers, select_and_transfer, transfer_info}
 use Rattle.chip.specs.Fifo.{Whole}
 use Rattle.reached.proofs.Shapes.{Numbered, Good, so, Fine, being, empty_way, drained_way, way_drained, raised, ended, unless_int, selects_transfers, second, clash, transfers_test, first}
 use Rattle.chip.specs.Connections.{is_selecting, is_connected}
+use Rattle.chip.specs.declared.Phase.{Phase}
 
 module _ (s : State) (n : Numbered s) where
   -- ---- Time
 
-  time_by : (t : ℕ) {x : Activity} {c : Connection} {d : Direction} {q : Fifo} {atn ack : Bool} {w : Noted}
+  time_by : (t : ℕ) {x : Activity} {c : Connection} {d : Direction} {q : Fifo} {atn ack : Bool} {w : Option Phase}
       → is_selecting c ≡ true → Whole q → Shape s.transfer.single s.registers.count x c d q atn ack w
       → Fine (selection_time t (being x c d q atn ack w s))
   unfolding selection_time timed_out
@@ -44,7 +45,7 @@ module _ (s : State) (n : Numbered s) where
 
   -- ---- Answer
 
-  answer_by : {x : Activity} {c : Connection} {d : Direction} {q : Fifo} {atn ack : Bool} {w : Noted}
+  answer_by : {x : Activity} {c : Connection} {d : Direction} {q : Fifo} {atn ack : Bool} {w : Option Phase}
       → is_selecting c ≡ true → Whole q → Shape s.transfer.single s.registers.count x c d q atn ack w
       → Fine (answered_selecting (being x c d q atn ack w s))
   unfolding answered_selecting answered_state connected
@@ -62,13 +63,13 @@ module _ (s : State) (n : Numbered s) where
 
   -- ---- Reselection
 
-  with_code : (lines : ℕ) {x : Activity} {c : Connection} {d : Direction} {q : Fifo} {atn ack : Bool} {w : Noted}
+  with_code : (lines : ℕ) {x : Activity} {c : Connection} {d : Direction} {q : Fifo} {atn ack : Bool} {w : Option Phase}
       → Whole q → Shape s.transfer.single s.registers.count x c d q atn ack w
       → Drained s.transfer.single s.registers.count d q → Fine (reselected_with_code lines (being x c d q atn ack w s))
   unfolding reselected_with_code reselected_state connected
   with_code lines u g h = unless_int _ _ (so _ n u g) (raised 0x80 _ n u joined h)
 
-  reselection_by : (lines : ℕ) {x : Activity} {c : Connection} {d : Direction} {q : Fifo} {atn ack : Bool} {w : Noted}
+  reselection_by : (lines : ℕ) {x : Activity} {c : Connection} {d : Direction} {q : Fifo} {atn ack : Bool} {w : Option Phase}
       → is_connected c ≡ false → Whole q → Shape s.transfer.single s.registers.count x c d q atn ack w
       → Fine (reselected_apart lines (being x c d q atn ack w s))
   unfolding reselected_apart reselected_state connected
@@ -91,7 +92,7 @@ module _ (s : State) (n : Numbered s) where
 
   -- ---- Free
 
-  select_and_transfer_free_lem : {r : Command} {d : Direction} {q : Fifo} (atn ack : Bool) (w : Noted) → Whole q → SelectsAndTransfers r → Way s.transfer.single s.registers.count d q
+  select_and_transfer_free_lem : {r : Command} {d : Direction} {q : Fifo} (atn ack : Bool) (w : Option Phase) → Whole q → SelectsAndTransfers r → Way s.transfer.single s.registers.count d q
       → (let t = being (Runs r) Connected d q atn ack w s in Fine (select_and_transfer_free t (bus_free t)))
   unfolding select_and_transfer_free free_after_disconnect free_to_wait bus_free bytes_unread
   select_and_transfer_free_lem atn ack w u k h =
@@ -100,7 +101,7 @@ module _ (s : State) (n : Numbered s) where
       (by_case Fine _ (λ e. so _ n u (read_out k e)) (λ e. so _ n u (waits k (way_drained h e)))))
       (ended 0x41 _ n u apart refl (select_and_transfer k) h)
 
-  free_by : {x : Activity} {c : Connection} {d : Direction} {q : Fifo} {atn ack : Bool} {w : Noted}
+  free_by : {x : Activity} {c : Connection} {d : Direction} {q : Fifo} {atn ack : Bool} {w : Option Phase}
       → is_connected c ≡ true → is_ending x ≡ false → Whole q → Shape s.transfer.single s.registers.count x c d q atn ack w
       → Fine (freed_running (being x c d q atn ack w s))
   unfolding freed_running transfer_info_free idle_free bus_free

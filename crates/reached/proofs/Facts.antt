@@ -2,6 +2,7 @@
 --   facts           of every state that has the facts of `Sound`
 --   reached_facts   of every state reached
 --   on_goes         a command with P that runs is a command that runs
+use Rattle.std.specs.Prelude.{Option}
 use mathlib.Core.Path.{◌≡◌, refl}
 use mathlib.Core.Bool.{Bool, true, false, true≢false, false≢true}
 use mathlib.Core.List.{List}
@@ -24,8 +25,8 @@ use Rattle.chip.specs.declared.Connection.{Connection}
 use Rattle.chip.specs.declared.Connection.TheVariants.{Connected}
 use Rattle.chip.specs.declared.Direction.{Direction}
 use Rattle.chip.specs.declared.Direction.TheVariants.{Unfixed, In, Out}
-use Rattle.chip.specs.declared.Noted.{Noted}
 use Rattle.chip.specs.Interrupts.{is_outgoing}
+use Rattle.chip.specs.declared.Phase.{Phase}
 use Rattle.reached.specs.Sound.{Way, unfixed, incoming, outgoing, is_unread, Resting, unasked, told, Placed, apart, joined, Shape, idle, selects, waits, selects_and_transfers, transfers_info, ending, read_out, with_atn, without_atn, Moves, select_and_transfer, transfer_info, Sound}
 use Rattle.reached.specs.Facts.{is_read_out, is_select, GoesOn, on, Runs, Facts}
 use Rattle.reached.proofs.Shapes.{clash, drained_way, selects_and_transfers_run, moves_run}
@@ -102,7 +103,7 @@ at_rest e o h joined =
       runs = rest_no_select e;
     }
 
-shown : {single : Bool} {n : ℕ} {x : Activity} {c : Connection} {d : Direction} {q : Fifo} {atn ack : Bool} {w : Noted}
+shown : {single : Bool} {n : ℕ} {x : Activity} {c : Connection} {d : Direction} {q : Fifo} {atn ack : Bool} {w : Option Phase}
     → Shape single n x c d q atn ack w → Shown x c d q atn ack
 shown (idle e o h l) = at_rest e o h l
 shown (selects k o h) =
@@ -169,7 +170,7 @@ way_left (unfixed h) o = absurd (false≢true o)
 way_left incoming o = absurd (false≢true o)
 way_left (outgoing h) o = h
 
-out_left : {single : Bool} {n : ℕ} {x : Activity} {c : Connection} {d : Direction} {q : Fifo} {atn ack : Bool} {w : Noted}
+out_left : {single : Bool} {n : ℕ} {x : Activity} {c : Connection} {d : Direction} {q : Fifo} {atn ack : Bool} {w : Option Phase}
     → Shape single n x c d q atn ack w → is_outgoing d ≡ true → is_running x ≡ true → F.waits q ≤ pick single 1 n
 out_left (idle e o h l) f r = clash f o
 out_left (selects k o h) f r = clash f o

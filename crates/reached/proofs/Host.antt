@@ -1,6 +1,7 @@
 -- The Data register, the other registers and a block keep the facts.
 --   data_read_kept, data_written_kept, block_read_kept, block_written_kept   of the Data register
 --   stored_kept, status_read_kept                                            of a register written, and of SCSI Status read
+use Rattle.std.specs.Prelude.{Option}
 use mathlib.Core.Path.{◌≡◌}
 use mathlib.Core.Bool.{Bool, true, false, true≢false, false≢true}
 use mathlib.Core.List.{List, [], ◌∷◌}
@@ -26,10 +27,10 @@ use Rattle.chip.specs.declared.Activity.{Activity}
 use Rattle.chip.specs.declared.Connection.{Connection}
 use Rattle.chip.specs.declared.Direction.{Direction}
 use Rattle.chip.specs.declared.Direction.TheVariants.{Unfixed, In, Out}
-use Rattle.chip.specs.declared.Noted.{Noted}
 use Rattle.chip.proofs.Cases.{by_pick, by_case, both_first}
 use Rattle.reached.specs.Sound.{is_unread, Resting, unasked, told, outgoing, none, out, Shape, idle, selects, waits, selects_and_transfers, transfers_info, ending, read_out}
 use Rattle.chip.specs.Fifo.{Whole}
+use Rattle.chip.specs.declared.Phase.{Phase}
 use Rattle.chip.proofs.FifoLaws.{keeps_bytes, pop_waits, push_waits}
 use Rattle.reached.proofs.Shapes.{Numbered, Good, so, Fine, being, clash, pop_way, raised, selects_and_transfers_run}
 
@@ -42,7 +43,7 @@ still In q x h e = rw e
 still Out q x h e = h
 
 module _ (s : State) (n : Numbered s) where
-  settles : {x : Activity} {c : Connection} {d : Direction} {q : Fifo} {atn ack : Bool} {w : Noted}
+  settles : {x : Activity} {c : Connection} {d : Direction} {q : Fifo} {atn ack : Bool} {w : Option Phase}
       → Whole q → is_empty q ≡ false → Shape s.transfer.single s.registers.count x c d q atn ack w → Good (settled (being x c d (pop q) atn ack w s))
   unfolding settled settled_by
   settles u f (idle e o h l) = clash h f
@@ -61,7 +62,7 @@ module _ (s : State) (n : Numbered s) where
       by_case Good _ (λ e. so _ n (keeps_bytes.pop_whole q u) (waits k (none e)))
       (λ e. so _ n (keeps_bytes.pop_whole q u) (read_out k (still d q (pop q) h e)))
 
-  data_read_lem : (d : Direction) {x : Activity} {c : Connection} {q : Fifo} {atn ack : Bool} {w : Noted}
+  data_read_lem : (d : Direction) {x : Activity} {c : Connection} {q : Fifo} {atn ack : Bool} {w : Option Phase}
       → Whole q → Shape s.transfer.single s.registers.count x c d q atn ack w → Fine (data_read_by d (being x c d q atn ack w s))
   unfolding dbr
   data_read_lem Unfixed u g = so _ n u g
@@ -69,7 +70,7 @@ module _ (s : State) (n : Numbered s) where
   data_read_lem Out u g = so _ n u g
 
   -- a byte more, going out
-  more : (b : ℕ) {x : Activity} {c : Connection} {q : Fifo} {atn ack : Bool} {w : Noted}
+  more : (b : ℕ) {x : Activity} {c : Connection} {q : Fifo} {atn ack : Bool} {w : Option Phase}
       → F.waits (push b q) ≤ pick s.transfer.single 1 s.registers.count
       → Shape s.transfer.single s.registers.count x c Out q atn ack w
       → Shape s.transfer.single s.registers.count x c Out (push b q) atn ack w
@@ -88,7 +89,7 @@ module _ (s : State) (n : Numbered s) where
       let m = pick s.transfer.single 1 s.registers.count in
       omega (arith, ltb-true (F.waits q) m (both_first _ (has_room q) e), push_waits b q)
 
-  data_written_lem : (d : Direction) (b : ℕ) {x : Activity} {c : Connection} {q : Fifo} {atn ack : Bool} {w : Noted}
+  data_written_lem : (d : Direction) (b : ℕ) {x : Activity} {c : Connection} {q : Fifo} {atn ack : Bool} {w : Option Phase}
       → Whole q → Shape s.transfer.single s.registers.count x c d q atn ack w → Fine (data_written_by d b (being x c d q atn ack w s))
   unfolding dbr left
   data_written_lem Unfixed b u g = so _ n u g
@@ -131,7 +132,7 @@ block_written_kept (b ∷ l) s g =
 -- ---- the other registers
 
 -- where nothing is under way the count may be anything
-recount : {single : Bool} {n m : ℕ} {x : Activity} {c : Connection} {d : Direction} {q : Fifo} {atn ack : Bool} {w : Noted}
+recount : {single : Bool} {n m : ℕ} {x : Activity} {c : Connection} {d : Direction} {q : Fifo} {atn ack : Bool} {w : Option Phase}
     → Shape single n x c d q atn ack w → is_running x ≡ false → Shape single m x c d q atn ack w
 recount (idle e o h l) b = idle e o h l
 recount (selects k o h) b = selects k o h
@@ -170,7 +171,7 @@ quieter : {x : Activity} → Resting x → Resting (without_interrupt x)
 quieter unasked = unasked
 quieter told = unasked
 
-read_shape : {single : Bool} {n : ℕ} {x : Activity} {c : Connection} {d : Direction} {q : Fifo} {atn ack : Bool} {w : Noted}
+read_shape : {single : Bool} {n : ℕ} {x : Activity} {c : Connection} {d : Direction} {q : Fifo} {atn ack : Bool} {w : Option Phase}
     → Shape single n x c d q atn ack w → Shape single n (without_interrupt x) c d q atn ack w
 read_shape (idle e o h l) = idle (quieter e) o h l
 read_shape (selects k o h) = selects k o h

@@ -3,6 +3,7 @@
 --   never_both   the law of the controller's step
 --   agree        the step with the old rules in front, and the step: the same after every list of calls from a fresh controller
 --   holds_time_differs, sleeps_differs   .. which is not so of wrong steps
+use Rattle.std.specs.Prelude.{Option}
 use mathlib.Core.Path.{◌≡◌, refl, ap, ◌∙◌}
 use mathlib.Core.Bool.{Bool, true, false, true≢false, false≢true}
 use mathlib.Core.List.{List, [], ◌∷◌}
@@ -21,10 +22,10 @@ use Rattle.chip.specs.declared.Reply.{Reply}
 use Rattle.chip.specs.declared.Answer.TheVariants.{BadNumber}
 use Rattle.chip.specs.declared.Fifo.{Fifo}
 use Rattle.chip.specs.declared.Direction.{Direction}
-use Rattle.chip.specs.declared.Noted.{Noted}
 use Rattle.chip.specs.declared.Connection.{Connection}
 use Rattle.chip.specs.declared.Activity.{Activity}
 use Rattle.chip.specs.declared.Activity.TheVariants.{Idle, Interrupt, Runs, Ends, ReadOut}
+use Rattle.chip.specs.declared.Phase.{Phase}
 use Rattle.chip.proofs.Computing.{everything}
 use Rattle.chip.proofs.Cases.{passed_over}
 use Rattle.reached.specs.Sound.{Shape, idle, selects, waits, selects_and_transfers, transfers_info, ending, read_out, unasked, told, apart, joined, Sound}
@@ -57,7 +58,7 @@ never_both l = not_both (run step l fresh)
 -- ---- the old rules, by the shape
 
 module _ (s : State) where
-  time_same : (t : ℕ) {single : Bool} {n : ℕ} {x : Activity} {c : Connection} {d : Direction} {q : Fifo} {atn ack : Bool} {w : Noted}
+  time_same : (t : ℕ) {single : Bool} {n : ℕ} {x : Activity} {c : Connection} {d : Direction} {q : Fifo} {atn ack : Bool} {w : Option Phase}
       → Shape single n x c d q atn ack w → passed_before t (being x c d q atn ack w s) ≡ passed t (being x c d q atn ack w s)
   unfolding passed_before passed E.selects pick both
   time_same t (idle unasked o h apart) = refl
@@ -72,7 +73,7 @@ module _ (s : State) where
   time_same t (ending k h joined) = refl
   time_same t (read_out k h) = refl
 
-  answer_same : {single : Bool} {n : ℕ} {x : Activity} {c : Connection} {d : Direction} {q : Fifo} {atn ack : Bool} {w : Noted}
+  answer_same : {single : Bool} {n : ℕ} {x : Activity} {c : Connection} {d : Direction} {q : Fifo} {atn ack : Bool} {w : Option Phase}
       → Shape single n x c d q atn ack w → answered_before (being x c d q atn ack w s) ≡ answered (being x c d q atn ack w s)
   unfolding answered_before answered answered_selecting E.answered_elsewhere unless_interrupt E.selects pick both
   answer_same (idle unasked o h apart) = refl

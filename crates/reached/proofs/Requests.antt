@@ -1,5 +1,6 @@
 -- A Request keeps the facts, while connected.
 --   request_kept   of every Request, from every shape
+use Rattle.std.specs.Prelude.{Option, None, Some}
 use mathlib.Core.Path.{◌≡◌, refl, sym, ◌∙◌}
 use mathlib.Core.Bool.{Bool, true, false, true≢false, false≢true}
 use Prim.Native.Nat.{ℕ, ◌%◌, ◌<◌}
@@ -30,8 +31,6 @@ use Rattle.chip.specs.declared.Direction.{Direction}
 use Rattle.chip.specs.declared.Direction.TheVariants.{Unfixed, In, Out}
 use Rattle.chip.specs.declared.Phase.{Phase}
 use Rattle.chip.specs.declared.Phase.TheVariants.{DataOut, DataIn, CommandOut, StatusIn, UnspecifiedOut, UnspecifiedIn, MessageOut, MessageIn}
-use Rattle.chip.specs.declared.Noted.{Noted}
-use Rattle.chip.specs.declared.Noted.TheVariants.{NoPhase, Was}
 use Rattle.chip.specs.declared.Stage.{Stage}
 use Rattle.chip.specs.declared.Stage.TheVariants.{SendIdentify, SendCommand, Body, AfterData, Disconnecting, Reselected, AfterStatus, Elsewhere}
 use Rattle.chip.proofs.Cases.{by_pick, by_case, both_first}
@@ -66,16 +65,16 @@ odd UnspecifiedIn = refl
 odd MessageOut = refl
 odd MessageIn = refl
 
-way_in : (w : Noted) (p : Phase) → is_noted p w ≡ true → comes_in p ≡ true → way_of w ≡ In
+way_in : (w : Option Phase) (p : Phase) → is_noted p w ≡ true → comes_in p ≡ true → way_of w ≡ In
 unfolding pick
-way_in NoPhase p e c = absurd (true≢false (sym e))
-way_in (Was x) p e c =
+way_in None p e c = absurd (true≢false (sym e))
+way_in (Some x) p e c =
     let h : comes_in x ≡ true = odd x ∙ rw (← eqb-true (phase_number p) (phase_number x) e) (sym (odd p) ∙ c) in
     rw h
 
 -- ---- connected, a command runs, nothing is pending
 
-module _ (s : State) (r : Command) (d : Direction) (q : Fifo) (atn ack : Bool) (w : Noted)
+module _ (s : State) (r : Command) (d : Direction) (q : Fifo) (atn ack : Bool) (w : Option Phase)
     (n : Numbered s) (u : Whole q) (run : Moves r) (way : Way s.transfer.single s.registers.count d q)
     (on : (o : Bool) (m : ℕ) (x : Fifo) (i j : Bool) → Way o m d x → Shape o m (Runs r) Connected d x i j w) where
   abbrev now : State
@@ -218,13 +217,13 @@ remembers NoDataNow p x g = g
 remembers Reported p x g = so _ g.numbers g.whole g.shape
 
 module _ (s : State) (n : Numbered s) (y : Phase) (b : ℕ) (bad : Bool) where
-  at_rest : {x : Activity} (d : Direction) (q : Fifo) (atn ack : Bool) (w : Noted)
+  at_rest : {x : Activity} (d : Direction) (q : Fifo) (atn ack : Bool) (w : Option Phase)
       → Whole q → Resting x → is_outgoing d ≡ false → is_empty q ≡ true → Fine (idle_request y (being x Connected d q atn ack w s))
   unfolding idle_request
   at_rest d q atn ack w u e o h =
       by_pick Fine _ (so _ n u (idle e o h joined)) (unless_int _ _ (so _ n u (idle e o h joined)) (raised _ _ n u joined (none h)))
 
-  by_shape : {x : Activity} {c : Connection} {d : Direction} {q : Fifo} {atn ack : Bool} {w : Noted}
+  by_shape : {x : Activity} {c : Connection} {d : Direction} {q : Fifo} {atn ack : Bool} {w : Option Phase}
       → is_connected c ≡ true → is_ending x ≡ false → Whole q → Shape s.transfer.single s.registers.count x c d q atn ack w
       → Fine (requested_running y b bad (being x c d q atn ack w s))
   unfolding requested_running idle_request

@@ -8,6 +8,7 @@
 --   clash       no test both holds and fails
 --   raised      a raised code leaves no command and no byte
 --   ended       so does an ending without incoming bytes; with them, it is under way
+use Rattle.std.specs.Prelude.{Option}
 use mathlib.Core.Path.{◌≡◌, refl, sym, ◌∙◌}
 use mathlib.Core.Bool.{Bool, true, false, true≢false, false≢true}
 use mathlib.Core.List.{List}
@@ -32,12 +33,12 @@ use Rattle.chip.specs.declared.Command.{Command}
 use Rattle.chip.specs.declared.Connection.{Connection}
 use Rattle.chip.specs.declared.Direction.{Direction}
 use Rattle.chip.specs.declared.Direction.TheVariants.{Unfixed, In, Out}
-use Rattle.chip.specs.declared.Noted.{Noted}
 use Rattle.chip.proofs.Cases.{by_pick, by_case}
 use Rattle.chip.specs.Interrupts.{is_outgoing}
 use Rattle.reached.specs.Sound.{Placed, Way, unfixed, incoming, outgoing, Drained, none, out, is_unread, told, idle, ending, Shaped, SelectsAndTransfers, with_atn, without_atn, Moves, select_and_transfer, transfer_info, Selects, six, seven, eight, nine}
 use Rattle.reached.proofs.Fifos.{dropped_whole}
 use Rattle.chip.specs.Fifo.{Whole}
+use Rattle.chip.specs.declared.Phase.{Phase}
 
 pub record Numbers (cdb : List ℕ) (n : ℕ) (own : Identity) : Type 0 where
   pub cdb_long : length cdb ≡ 12
@@ -58,7 +59,7 @@ so s n u h = record { numbers = n; whole = u; shape = h }
 abbrev pub Fine : Reply → Type 0
 Fine r = Good r.state
 
-abbrev pub being : Activity → Connection → Direction → Fifo → Bool → Bool → Noted → State → State
+abbrev pub being : Activity → Connection → Direction → Fifo → Bool → Bool → Option Phase → State → State
 being x c d q atn ack w s =
     set_activity x (set_connection c (set_direction d (set_fifo q (set_atn atn (set_ack ack (set_reported w s))))))
 

@@ -12,7 +12,7 @@
 --   is_unread    incoming bytes wait
 -- The image's form enforces `ok`, and the type of activities that no state has INT with BSY or with an ending. An image of any other
 -- combination is valid, and this room says that no list of calls comes to one that is not among the shapes.
-use Rattle.std.specs.Prelude.{◌≡◌, Bool, true, false, not, ℕ, ◌≤◌}
+use Rattle.std.specs.Prelude.{◌≡◌, Bool, true, false, not, ℕ, ◌≤◌, Option}
 use Rattle.chip.specs.Choice.{pick, both}
 use Rattle.chip.specs.Fifo as F
 use Rattle.chip.specs.Fifo.{is_empty}
@@ -29,8 +29,8 @@ use Rattle.chip.specs.declared.Connection.{Connection}
 use Rattle.chip.specs.declared.Connection.TheVariants.{Disconnected, Selecting, Waiting, Connected}
 use Rattle.chip.specs.declared.Direction.{Direction}
 use Rattle.chip.specs.declared.Direction.TheVariants.{Unfixed, In, Out}
-use Rattle.chip.specs.declared.Noted.{Noted}
 use Rattle.chip.specs.Ok.{Ok}
+use Rattle.chip.specs.declared.Phase.{Phase}
 
 abbrev pub is_unread : Direction → Fifo → Bool
 is_unread d q = both (is_incoming d) (not (is_empty q))
@@ -67,27 +67,27 @@ pub data Drained (single : Bool) (n : ℕ) : Direction → Fifo → Type 0 where
   none : {d : Direction} {q : Fifo} → is_empty q ≡ true → Drained single n d q
   out : {q : Fifo} → F.waits q ≤ pick single 1 n → Drained single n Out q
 
-pub data Shape (single : Bool) (n : ℕ) : Activity → Connection → Direction → Fifo → Bool → Bool → Noted → Type 0 where
+pub data Shape (single : Bool) (n : ℕ) : Activity → Connection → Direction → Fifo → Bool → Bool → Option Phase → Type 0 where
   -- no command runs: INT or not, the way not out, no byte waits, and it is Disconnected or connected
-  idle : {a : Activity} {c : Connection} {d : Direction} {q : Fifo} {atn ack : Bool} {w : Noted}
+  idle : {a : Activity} {c : Connection} {d : Direction} {q : Fifo} {atn ack : Bool} {w : Option Phase}
       → Resting a → is_outgoing d ≡ false → is_empty q ≡ true → Placed c atn ack → Shape single n a c d q atn ack w
   -- selecting: one of 06 to 09 runs, the way not out, no byte waits
-  selects : {r : Command} {d : Direction} {q : Fifo} {w : Noted}
+  selects : {r : Command} {d : Direction} {q : Fifo} {w : Option Phase}
       → Selects r → is_outgoing d ≡ false → is_empty q ≡ true → Shape single n (Runs r) Selecting d q false false w
   -- waiting for reselection: a Select-And-Transfer runs, every incoming byte was read
-  waits : {r : Command} {d : Direction} {q : Fifo} {w : Noted}
+  waits : {r : Command} {d : Direction} {q : Fifo} {w : Option Phase}
       → SelectsAndTransfers r → Drained single n d q → Shape single n (Runs r) Waiting d q false false w
   -- connected, a Select-And-Transfer runs
-  selects_and_transfers : {r : Command} {d : Direction} {q : Fifo} {atn ack : Bool} {w : Noted}
+  selects_and_transfers : {r : Command} {d : Direction} {q : Fifo} {atn ack : Bool} {w : Option Phase}
       → SelectsAndTransfers r → Way single n d q → Shape single n (Runs r) Connected d q atn ack w
   -- connected, Transfer Info runs; the way is that of the reported phase
-  transfers_info : {d : Direction} {q : Fifo} {atn ack : Bool} {w : Noted}
+  transfers_info : {d : Direction} {q : Fifo} {atn ack : Bool} {w : Option Phase}
       → Way single n d q → d ≡ way_of w → Shape single n (Runs TransferInfo) Connected d q atn ack w
   -- an ending: of a command that moves bytes; incoming bytes wait, and it is Disconnected or connected
-  ending : {code : ℕ} {r : Command} {c : Connection} {d : Direction} {q : Fifo} {atn ack : Bool} {w : Noted}
+  ending : {code : ℕ} {r : Command} {c : Connection} {d : Direction} {q : Fifo} {atn ack : Bool} {w : Option Phase}
       → Moves r → is_unread d q ≡ true → Placed c atn ack → Shape single n (Ends r code) c d q atn ack w
   -- the read-out after a Free at 42h: of a Select-And-Transfer; incoming bytes wait, Disconnected
-  read_out : {r : Command} {d : Direction} {q : Fifo} {w : Noted}
+  read_out : {r : Command} {d : Direction} {q : Fifo} {w : Option Phase}
       → SelectsAndTransfers r → is_unread d q ≡ true → Shape single n (ReadOut r) Disconnected d q false false w
 
 -- the shape of a state

@@ -1,5 +1,6 @@
 -- Every reply to a Request fits it, and counts a byte exactly where one of the count's crosses.
 --   request_served   of every Request, from every state
+use Rattle.std.specs.Prelude.{Option, Some}
 use mathlib.Core.Path.{◌≡◌, refl, sym, ◌∙◌, subst}
 use mathlib.Core.Bool.{Bool, true, false, false≢true}
 use Prim.Native.Nat.{ℕ}
@@ -26,8 +27,6 @@ use Rattle.chip.specs.Activity.{is_ending, goes_on, ends}
 use Rattle.chip.specs.declared.Activity.{Activity}
 use Rattle.chip.specs.declared.Activity.TheVariants.{Idle, Interrupt, Runs, Ends, ReadOut}
 use Rattle.chip.proofs.Activities.{transfer_goes_on, info_goes_on}
-use Rattle.chip.specs.declared.Noted.{Noted}
-use Rattle.chip.specs.declared.Noted.TheVariants.{Was}
 use Rattle.chip.specs.declared.Stage.{Stage}
 use Rattle.chip.specs.declared.Stage.TheVariants.{SendIdentify, SendCommand, Body, AfterData, Disconnecting, Reselected, AfterStatus, Elsewhere}
 use Rattle.refusals.specs.Refusals.{SameCount, Untaken, kept, dropped, Cause, raised, ending, opened, Noticed}
@@ -62,7 +61,7 @@ end_noticed code s on =
     (raise_noticed code s)
 
 -- what a report looks at is that of s, whatever else was set before
-before : {x : Noted} {y z : Bool} {s t : State} → Noticed (set_reported x (set_ack y (set_pe z s))) t → Noticed s t
+before : {x : Option Phase} {y z : Bool} {s t : State} → Noticed (set_reported x (set_ack y (set_pe z s))) t → Noticed s t
 before h = record { count = stands h.count.shown h.count.beside; fifo = h.fifo; cause = h.cause }
 
 -- a byte taken in, whatever its parity, lowers the count by one
@@ -277,13 +276,13 @@ module _ (n b q : ℕ) (s : State) where
 
   -- ---- the phase is kept in mind
 
-  falls_last : (k : Bool) (x : Noted) (t : State) → Falls k s t → Falls k s (set_last x t)
+  falls_last : (k : Bool) (x : Option Phase) (t : State) → Falls k s t → Falls k s (set_last x t)
   unfolding left
   falls_last true x t h = h
   falls_last false x t h = stands h.shown h.beside
 
   remembers : (k : Bool) (a : Answer) (p : Phase) {t : State} → Fine k (says a t) → Fine k (remembered_by a p (says a t))
-  remembers k (Done v) p {t} h = record { fits = did refl; count = falls_last k (Was p) t h.count }
+  remembers k (Done v) p {t} h = record { fits = did refl; count = falls_last k (Some p) t h.count }
   remembers k Held p h = h
   remembers k OutOfPlace p h = h
   remembers k BadNumber p h = h

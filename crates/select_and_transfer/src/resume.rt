@@ -3,7 +3,7 @@ ghost use Rattle.std.specs.Prelude.{◌≡◌};
 ghost use Rattle.chip.specs.SelectAndTransfer.{ack_after_resume, from_disconnected, is_at_end, is_early, is_middle, is_resumable, resumed};
 
 use crate::stage;
-use chip::{Activity, Command, Noted, State};
+use chip::{Activity, Command, State};
 use state::set;
 
 #[tactic(auto, unfolding(chip::specs::SelectAndTransfer::from_disconnected))]
@@ -79,7 +79,7 @@ pub fn resumed(r: Command, s: State) -> State
         ack_after_resume(s),
     );
     if s.registers.descriptor.phase == 0x60 {
-        return interrupts::ending_with(0x16, set::reported(t, Noted::NoPhase));
+        return interrupts::ending_with(0x16, set::reported(t, None));
     }
     t
 }

@@ -5,7 +5,7 @@ ghost use Rattle.chip.specs.Lines.{identify, lun_of};
 ghost use Rattle.chip.specs.Phases.{is_message_in};
 ghost use Rattle.chip.specs.SelectAndTransfer.{completed, take_complete, take_disconnect, take_identify, take_message, take_save, take_status, unexpected};
 
-use chip::{Noted, Phase, Reply, State};
+use chip::{Phase, Reply, State};
 use state::set;
 
 #[tactic(auto, unfolding(chip::specs::SelectAndTransfer::unexpected, chip::specs::Interrupts::unless_interrupt, chip::specs::Choice::pick))]
@@ -14,7 +14,7 @@ pub fn unexpected(p: Phase, s: State) -> Reply
 {
     answers::reports(interrupts::ending_with(
         phases::coded(0x48, p),
-        set::reported(s, Noted::Was(p)),
+        set::reported(s, Some(p)),
     ))
 }
 
@@ -39,7 +39,7 @@ fn save(bad: bool, s: State) -> Reply
     let t = set::ack(set::phase(transfer_info::parity_noted(bad, s), 0x41), true);
     answers::done(
         0x02,
-        interrupts::ending_with(0x21, set::reported(t, Noted::NoPhase)),
+        interrupts::ending_with(0x21, set::reported(t, None)),
     )
 }
 
@@ -108,7 +108,7 @@ fn completed(bad: bool, s: State) -> Reply
     }
     let t = set::reported(
         set::phase(transfer_info::parity_noted(bad, s), 0x60),
-        Noted::NoPhase,
+        None,
     );
     answers::done(0x00, interrupts::ending_with(0x16, t))
 }

@@ -3,6 +3,7 @@
 --   put_done, get_done                 pointer and access together
 --   wait_at, Attends, attend           an access is due, and with it made the Target is brought on
 --   at_once                            it is brought on already
+use Rattle.std.specs.Prelude.{Option}
 use mathlib.Core.Path.{◌≡◌, refl, sym, subst}
 use mathlib.Core.Bool.{Bool, true, false}
 use mathlib.Core.List.{List, [], ◌∷◌, ◌++◌}
@@ -20,7 +21,6 @@ use Rattle.chip.specs.declared.Answer.TheVariants.{Done}
 use Rattle.chip.specs.declared.Registers.{Registers}
 use Rattle.chip.specs.declared.Status.{Status}
 use Rattle.chip.specs.declared.Transfer.{Transfer}
-use Rattle.chip.specs.declared.Noted.{Noted}
 use Rattle.chip.specs.declared.Connection.TheVariants.{Disconnected}
 use Rattle.chip.specs.declared.Fifo.{Fifo}
 use Rattle.chip.specs.declared.Wire.{Wire}
@@ -98,7 +98,7 @@ module _ (g : Program) where
   attend_at {c} e a = attend c (subst (λ (z : Scene). Attends z) (sym e) a)
 
   -- before the selection the Target calls in vain
-  pub bus_idle : (r : Registers) (st : Status) (act : Activity) (q : Fifo) (tr : Transfer) (at ak : Bool) (rp ls : Noted) (id : Kept) (el : ℕ) (h : Host)
+  pub bus_idle : (r : Registers) (st : Status) (act : Activity) (q : Fifo) (tr : Transfer) (at ak : Bool) (rp ls : Option Phase) (id : Kept) (el : ℕ) (h : Host)
       (pa : ℕ) (t : List Item)
       → bus step g (the_scene (the_state r st act q tr (the_wire Disconnected at ak rp ls id el)) h (the_target calling pa [] t))
       ≡ the_scene (the_state r st act q tr (the_wire Disconnected at ak rp ls id el)) h (the_target calling pa [] t)

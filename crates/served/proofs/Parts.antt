@@ -4,6 +4,7 @@
 --   Polls     the host looks, or makes the access that a look asked for, which is still as good as when it looked
 --   Tale, onto   the story as what has crossed and what is still to cross, and one item more crossed
 --   Plays     a list of accesses to 00 to 16h that leads to a goal, and what comes after it
+use Rattle.std.specs.Prelude.{Option}
 use mathlib.Core.Path.{◌≡◌, refl, ◌∙◌}
 use mathlib.Core.Bool.{Bool, true, false}
 use mathlib.Core.List.{List, [], ◌∷◌, ◌++◌, append_assoc}
@@ -19,7 +20,6 @@ use Rattle.chip.specs.declared.Identity.{Identity}
 use Rattle.chip.specs.declared.Connection.{Connection}
 use Rattle.chip.specs.declared.Activity.{Activity}
 use Rattle.chip.specs.declared.Direction.{Direction}
-use Rattle.chip.specs.declared.Noted.{Noted}
 use Rattle.chip.specs.declared.Phase.{Phase}
 use Rattle.story.specs.Story.{Item}
 use Rattle.story.specs.Hosts.{Access, put, get, code, take, send, Note, note, Host, address_of}
@@ -48,7 +48,7 @@ pub record Kept : Type 0 where
 abbrev pub kept_of : State → Kept
 kept_of s = record { identity = s.wire.identity }
 
-abbrev pub the_wire : Connection → Bool → Bool → Noted → Noted → Kept → ℕ → Wire
+abbrev pub the_wire : Connection → Bool → Bool → Option Phase → Option Phase → Kept → ℕ → Wire
 the_wire c a k r l i e =
     record {
       connection = c;

@@ -7,6 +7,7 @@
 --   Heard     the host has read what came in but for what waits
 --   Begins, Sends, Takes, Closes, Drains, Ends   the scenes: before a phase moves, while one does, after the last
 --   Reach     all of them
+use Rattle.std.specs.Prelude.{Option, None, Some}
 use mathlib.Core.Path.{◌≡◌}
 use mathlib.Core.Bool.{Bool, true, false}
 use mathlib.Core.List.{List, [], ◌∷◌, ◌++◌}
@@ -22,8 +23,6 @@ use Rattle.chip.specs.declared.Activity.TheVariants.{Idle, Interrupt, Runs}
 use Rattle.chip.specs.declared.Activity.TheVariants as Activity
 use Rattle.chip.specs.declared.Direction.{Direction}
 use Rattle.chip.specs.declared.Direction.TheVariants.{In, Out}
-use Rattle.chip.specs.declared.Noted.{Noted}
-use Rattle.chip.specs.declared.Noted.TheVariants.{NoPhase, Was}
 use Rattle.chip.specs.declared.Phase.{Phase}
 use Rattle.chip.specs.declared.Phase.TheVariants.{DataOut, DataIn, CommandOut, StatusIn, UnspecifiedOut, UnspecifiedIn, MessageOut, MessageIn}
 use Rattle.chip.specs.Ok.{Bytes}
@@ -109,7 +108,7 @@ module _ (j : Job) (whole : List Item) (total : List Note) where
 
   -- before a phase moves
   pub data Begins : Scene → Type 0 where
-    loads : {c m x pa el : ℕ} {l e at o f : Bool} {q : Fifo} {d : Direction} {rp ls : Noted} {id : Kept} {td : List Access} {r : Registers}
+    loads : {c m x pa el : ℕ} {l e at o f : Bool} {q : Fifo} {d : Direction} {rp ls : Option Phase} {id : Kept} {td : List Access} {r : Registers}
         {n : List Note} {g : List Seg}
         → Plays (put 0x18 0x06 ∷ []) Ready td r n
         → Aimed td f x
@@ -121,7 +120,7 @@ module _ (j : Job) (whole : List Item) (total : List Note) where
         → Begins
         (the_scene (the_state r (the_status x c m l e) Idle q (the_transfer d o) (the_wire Disconnected at false rp ls id el))
         (the_host td f MessageOut [] [] n) (the_target calling pa [] (flat g)))
-    seeks : {c m x pa el ow ct tm lu ph sy ct2 ds sr : ℕ} {l e at o f : Bool} {q : Fifo} {d : Direction} {rp ls : Noted} {id : Kept}
+    seeks : {c m x pa el ow ct tm lu ph sy ct2 ds sr : ℕ} {l e at o f : Bool} {q : Fifo} {d : Direction} {rp ls : Option Phase} {id : Kept}
         {td : List Access} {cd : List ℕ} {g : List Seg}
         → Polls false false true td f x
         → Quiet d q
@@ -133,25 +132,25 @@ module _ (j : Job) (whole : List Item) (total : List Note) where
         (the_scene
         (the_state (the_registers ow ct tm cd lu ph sy ct2 ds sr) (the_status x c m l e) (Runs SelectWithAtn) q (the_transfer d o)
         (the_wire Selecting at false rp ls id el)) (the_host td f MessageOut [] [] []) (the_target calling pa [] (flat g)))
-    greets : {m x pa el : ℕ} {l e at o f : Bool} {q : Fifo} {d : Direction} {ls : Noted} {id : Kept} {td : List Access} {r : Registers} {g : List Seg}
+    greets : {m x pa el : ℕ} {l e at o f : Bool} {q : Fifo} {d : Direction} {ls : Option Phase} {id : Kept} {td : List Access} {r : Registers} {g : List Seg}
         → Polls true false true td f x
         → Quiet d q
         → Good g
         → Noting [] (notes_after g)
         → Tale whole [] (flat g)
         → Begins
-        (the_scene (the_state r (the_status x 0x11 m l e) Interrupt q (the_transfer d o) (the_wire Connected at false NoPhase ls id el))
+        (the_scene (the_state r (the_status x 0x11 m l e) Interrupt q (the_transfer d o) (the_wire Connected at false None ls id el))
         (the_host td f MessageOut [] [] []) (the_target talking pa [] (flat g)))
-    waits : {c m x pa el : ℕ} {l e at o f : Bool} {q : Fifo} {d : Direction} {ls : Noted} {id : Kept} {td : List Access} {r : Registers} {g : List Seg}
+    waits : {c m x pa el : ℕ} {l e at o f : Bool} {q : Fifo} {d : Direction} {ls : Option Phase} {id : Kept} {td : List Access} {r : Registers} {g : List Seg}
         → Polls false false true td f x
         → Quiet d q
         → Good g
         → Noting [] (notes_after g)
         → Tale whole [] (flat g)
         → Begins
-        (the_scene (the_state r (the_status x c m l e) Idle q (the_transfer d o) (the_wire Connected at false NoPhase ls id el))
+        (the_scene (the_state r (the_status x c m l e) Idle q (the_transfer d o) (the_wire Connected at false None ls id el))
         (the_host td f MessageOut [] [] []) (the_target talking pa [] (flat g)))
-    named : {c m x pa el ow ct tm lu ph sy lf ds sr : ℕ} {l e at o f : Bool} {q : Fifo} {d : Direction} {ls : Noted} {id : Kept}
+    named : {c m x pa el ow ct tm lu ph sy lf ds sr : ℕ} {l e at o f : Bool} {q : Fifo} {d : Direction} {ls : Option Phase} {id : Kept}
         {td : List Access} {cd v bs y : List ℕ} {g : List Seg} {p cr : Phase} {log got : List Item} {n : List Note}
         → Polls true false true td f x
         → Quiet d q
@@ -164,8 +163,8 @@ module _ (j : Job) (whole : List Item) (total : List Note) where
         → Begins
         (the_scene
         (the_state (the_registers ow ct tm cd lu ph sy lf ds sr) (the_status x c m l e) Interrupt q (the_transfer d o)
-        (the_wire Connected at false (Was p) ls id el)) (the_host td f cr v got n) (the_target talking pa log (flat (seg p bs y ∷ g))))
-    coded : {c m x pa el : ℕ} {l e at o f : Bool} {q : Fifo} {d : Direction} {ls : Noted} {id : Kept} {td : List Access} {r : Registers}
+        (the_wire Connected at false (Some p) ls id el)) (the_host td f cr v got n) (the_target talking pa log (flat (seg p bs y ∷ g))))
+    coded : {c m x pa el : ℕ} {l e at o f : Bool} {q : Fifo} {d : Direction} {ls : Option Phase} {id : Kept} {td : List Access} {r : Registers}
         {bs y : List ℕ} {g : List Seg} {p : Phase} {log got : List Item} {n : List Note}
         → Plays (put 0x18 0x20 ∷ []) (Counted p (notes_after (seg p bs y ∷ g))) td r n
         → Aimed td f x
@@ -174,12 +173,12 @@ module _ (j : Job) (whole : List Item) (total : List Note) where
         → Heard log got DataIn []
         → Tale whole log (flat (seg p bs y ∷ g))
         → Begins
-        (the_scene (the_state r (the_status x c m l e) Idle q (the_transfer d o) (the_wire Connected at false (Was p) ls id el))
+        (the_scene (the_state r (the_status x c m l e) Idle q (the_transfer d o) (the_wire Connected at false (Some p) ls id el))
         (the_host td f p (give_for j p) got n) (the_target talking pa log (flat (seg p bs y ∷ g))))
 
   -- a phase goes out
   pub data Sends : Scene → Type 0 where
-    sends : {c m x pa el ow ct tm lu ph sy ds sr : ℕ} {l e at f : Bool} {q : Fifo} {ls : Noted} {id : Kept} {td : List Access} {cd y : List ℕ}
+    sends : {c m x pa el ow ct tm lu ph sy ds sr : ℕ} {l e at f : Bool} {q : Fifo} {ls : Option Phase} {id : Kept} {td : List Access} {cd y : List ℕ}
         {g : List Seg} {p : Phase} {log got : List Item} {n : List Note} (fifo rest give : List ℕ)
         → Polls false false (can_send fifo give) td f x
         → comes_in p ≡ false
@@ -192,11 +191,11 @@ module _ (j : Job) (whole : List Item) (total : List Note) where
         → Sends
         (the_scene
         (the_state (the_registers ow ct tm cd lu ph sy (length rest + length y) ds sr) (the_status x c m l e) (Runs TransferInfo) q (the_transfer Out false)
-        (the_wire Connected at false (Was p) ls id el)) (the_host td f p give got n) (the_target talking pa log (items p rest ++ flat g)))
+        (the_wire Connected at false (Some p) ls id el)) (the_host td f p give got n) (the_target talking pa log (items p rest ++ flat g)))
 
   -- a phase comes in
   pub data Takes : Scene → Type 0 where
-    takes : {c m x pa el ow ct tm lu ph sy ds sr : ℕ} {l e at f : Bool} {q : Fifo} {ls : Noted} {id : Kept} {td : List Access} {cd v : List ℕ}
+    takes : {c m x pa el ow ct tm lu ph sy ds sr : ℕ} {l e at f : Bool} {q : Fifo} {ls : Option Phase} {id : Kept} {td : List Access} {cd v : List ℕ}
         {g : List Seg} {p : Phase} {log got : List Item} {n : List Note} (fifo rest y : List ℕ)
         → Polls false (is_some fifo) true td f x
         → comes_in p ≡ true
@@ -210,11 +209,11 @@ module _ (j : Job) (whole : List Item) (total : List Note) where
         → Takes
         (the_scene
         (the_state (the_registers ow ct tm cd lu ph sy (length rest + length y) ds sr) (the_status x c m l e) (Runs TransferInfo) q (the_transfer In false)
-        (the_wire Connected at false (Was p) ls id el)) (the_host td f p v got n) (the_target talking pa log (items p rest ++ flat g)))
+        (the_wire Connected at false (Some p) ls id el)) (the_host td f p v got n) (the_target talking pa log (items p rest ++ flat g)))
 
   -- the last byte is to come
   pub data Closes : Scene → Type 0 where
-    closes : {c m x pa el ow ct tm lu ph sy ds sr b : ℕ} {l e at f : Bool} {q : Fifo} {ls : Noted} {id : Kept} {td : List Access} {cd v : List ℕ}
+    closes : {c m x pa el ow ct tm lu ph sy ds sr b : ℕ} {l e at f : Bool} {q : Fifo} {ls : Option Phase} {id : Kept} {td : List Access} {cd v : List ℕ}
         {log got : List Item} {n : List Note}
         → Polls false false true td f x
         → Lined q []
@@ -226,11 +225,11 @@ module _ (j : Job) (whole : List Item) (total : List Note) where
         → Closes
         (the_scene
         (the_state (the_registers ow ct tm cd lu ph sy 1 ds sr) (the_status x c m l e) (Runs TransferInfo) q (the_transfer In false)
-        (the_wire Connected at false (Was MessageIn) ls id el)) (the_host td f MessageIn v got n) (the_target talking pa log (item MessageIn b ∷ [])))
+        (the_wire Connected at false (Some MessageIn) ls id el)) (the_host td f MessageIn v got n) (the_target talking pa log (item MessageIn b ∷ [])))
 
   -- another phase waits until the bytes are read out
   pub data Drains : Scene → Type 0 where
-    drains : {c k m x pa el ow ct tm lu ph sy lf ds sr b : ℕ} {l e at o f : Bool} {q : Fifo} {ls : Noted} {id : Kept} {td : List Access}
+    drains : {c k m x pa el ow ct tm lu ph sy lf ds sr b : ℕ} {l e at o f : Bool} {q : Fifo} {ls : Option Phase} {id : Kept} {td : List Access}
         {cd v bs y : List ℕ} {g : List Seg} {p cr : Phase} {log got : List Item} {n : List Note} (fifo : List ℕ)
         → Polls false true true td f x
         → comes_in cr ≡ true
@@ -244,11 +243,11 @@ module _ (j : Job) (whole : List Item) (total : List Note) where
         → Drains
         (the_scene
         (the_state (the_registers ow ct tm cd lu ph sy lf ds sr) (the_status x c m l e) (Activity.Ends TransferInfo k) q (the_transfer In o)
-        (the_wire Connected at false (Was p) ls id el)) (the_host td f cr v got n) (the_target talking pa log (flat (seg p bs y ∷ g))))
+        (the_wire Connected at false (Some p) ls id el)) (the_host td f cr v got n) (the_target talking pa log (flat (seg p bs y ∷ g))))
 
   -- Message In is over
   pub data Ends : Scene → Type 0 where
-    pauses : {c m x pa el b : ℕ} {l e at o f : Bool} {q : Fifo} {rp ls : Noted} {id : Kept} {td : List Access} {r : Registers} {v : List ℕ}
+    pauses : {c m x pa el b : ℕ} {l e at o f : Bool} {q : Fifo} {rp ls : Option Phase} {id : Kept} {td : List Access} {r : Registers} {v : List ℕ}
         {log got : List Item} {n : List Note}
         → Polls false true true td f x
         → Lined q (b ∷ [])
@@ -260,7 +259,7 @@ module _ (j : Job) (whole : List Item) (total : List Note) where
         (the_scene
         (the_state r (the_status x c m l e) (Activity.Ends TransferInfo 0x20) q (the_transfer In o) (the_wire Connected at true rp ls id el))
         (the_host td f MessageIn v got n) (the_target talking pa log []))
-    paused : {m x pa el : ℕ} {l e at o f : Bool} {q : Fifo} {d : Direction} {rp ls : Noted} {id : Kept} {td : List Access} {r : Registers} {v : List ℕ}
+    paused : {m x pa el : ℕ} {l e at o f : Bool} {q : Fifo} {d : Direction} {rp ls : Option Phase} {id : Kept} {td : List Access} {r : Registers} {v : List ℕ}
         {log got : List Item} {n : List Note} {hp : Phase}
         → Polls true false true td f x
         → Quiet d q
@@ -272,7 +271,7 @@ module _ (j : Job) (whole : List Item) (total : List Note) where
         (the_scene
         (the_state r (the_status x 0x20 m l e) Interrupt q (the_transfer d o) (the_wire Connected at true rp ls id el)) (the_host td f hp v got n)
         (the_target talking pa log []))
-    negates : {c m x pa el : ℕ} {l e at o f : Bool} {q : Fifo} {d : Direction} {rp ls : Noted} {id : Kept} {r : Registers} {v : List ℕ}
+    negates : {c m x pa el : ℕ} {l e at o f : Bool} {q : Fifo} {d : Direction} {rp ls : Option Phase} {id : Kept} {r : Registers} {v : List ℕ}
         {log got : List Item} {n : List Note} {hp : Phase}
         → Aimed (put 0x18 0x03 ∷ []) f x
         → Quiet d q
@@ -284,7 +283,7 @@ module _ (j : Job) (whole : List Item) (total : List Note) where
         (the_scene
         (the_state r (the_status x c m l e) Idle q (the_transfer d o) (the_wire Connected at true rp ls id el))
         (the_host (put 0x18 0x03 ∷ []) f hp v got n) (the_target talking pa log []))
-    calm : {c m x pa el : ℕ} {l e at o f : Bool} {q : Fifo} {d : Direction} {rp ls : Noted} {id : Kept} {td : List Access} {r : Registers} {v : List ℕ}
+    calm : {c m x pa el : ℕ} {l e at o f : Bool} {q : Fifo} {d : Direction} {rp ls : Option Phase} {id : Kept} {td : List Access} {r : Registers} {v : List ℕ}
         {log got : List Item} {n : List Note} {hp : Phase}
         → Polls false false true td f x
         → Quiet d q
@@ -296,7 +295,7 @@ module _ (j : Job) (whole : List Item) (total : List Note) where
         (the_scene
         (the_state r (the_status x c m l e) Idle q (the_transfer d o) (the_wire Connected at false rp ls id el)) (the_host td f hp v got n)
         (the_target talking pa log []))
-    gone : {m x pa el : ℕ} {l e at o f : Bool} {q : Fifo} {d : Direction} {rp ls : Noted} {id : Kept} {td : List Access} {r : Registers} {v : List ℕ}
+    gone : {m x pa el : ℕ} {l e at o f : Bool} {q : Fifo} {d : Direction} {rp ls : Option Phase} {id : Kept} {td : List Access} {r : Registers} {v : List ℕ}
         {log got : List Item} {n : List Note} {hp : Phase}
         → Late td f x
         → Quiet d q
@@ -308,7 +307,7 @@ module _ (j : Job) (whole : List Item) (total : List Note) where
         (the_scene
         (the_state r (the_status x 0x85 m l e) Interrupt q (the_transfer d o) (the_wire Disconnected at false rp ls id el)) (the_host td f hp v got n)
         (the_target away pa log []))
-    rests : {c m x pa el : ℕ} {l e at o f : Bool} {q : Fifo} {d : Direction} {rp ls : Noted} {id : Kept} {td : List Access} {r : Registers} {v : List ℕ}
+    rests : {c m x pa el : ℕ} {l e at o f : Bool} {q : Fifo} {d : Direction} {rp ls : Option Phase} {id : Kept} {td : List Access} {r : Registers} {v : List ℕ}
         {log got : List Item} {n : List Note} {hp : Phase}
         → Polls false false true td f x
         → Quiet d q

@@ -1,6 +1,7 @@
 -- The demand for the host that serves phase by phase, from every scene that can be reached.
 --   brought   the Target is brought on
 --   serves    the promise, after every schedule, where the phases are the story
+use Rattle.std.specs.Prelude.{Option, None, Some}
 use mathlib.Core.Path.{◌≡◌, refl}
 use mathlib.Core.Bool.{Bool, true, false}
 use mathlib.Core.List.{List, [], ◌∷◌, ◌++◌}
@@ -23,8 +24,6 @@ use Rattle.chip.specs.declared.Activity.{Activity}
 use Rattle.chip.specs.declared.Activity.TheVariants.{Idle, Interrupt, Runs, Ends}
 use Rattle.chip.specs.declared.Direction.{Direction}
 use Rattle.chip.specs.declared.Direction.TheVariants.{In, Out}
-use Rattle.chip.specs.declared.Noted.{Noted}
-use Rattle.chip.specs.declared.Noted.TheVariants.{NoPhase, Was}
 use Rattle.chip.specs.declared.Phase.{Phase}
 use Rattle.chip.specs.declared.Phase.TheVariants.{MessageOut, MessageIn}
 use Rattle.reached.specs.Sound.{Resting, unasked, told}
@@ -49,14 +48,14 @@ module _ (j : Job) (whole : List Item) (total : List Note) where
   B c = Brought step (by_phases j) c
 
   -- a phase that is reported is Held while no command runs, its code read or not
-  bus_named : (r : Registers) (x c m : ℕ) (l e : Bool) (q : Fifo) (d : Direction) (o at : Bool) (ls : Noted) (id : Kept) (el : ℕ) (h : Host)
+  bus_named : (r : Registers) (x c m : ℕ) (l e : Bool) (q : Fifo) (d : Direction) (o at : Bool) (ls : Option Phase) (id : Kept) (el : ℕ) (h : Host)
       (pa : ℕ) (log : List Item) {act : Activity} {p : Phase} {bs y : List ℕ} {g : List Seg}
       → Resting act
       → Good j whole total (seg p bs y ∷ g)
       → bus step (by_phases j)
-      (the_scene (the_state r (the_status x c m l e) act q (the_transfer d o) (the_wire Connected at false (Was p) ls id el)) h
+      (the_scene (the_state r (the_status x c m l e) act q (the_transfer d o) (the_wire Connected at false (Some p) ls id el)) h
       (the_target talking pa log (flat (seg p bs y ∷ g))))
-      ≡ the_scene (the_state r (the_status x c m l e) act q (the_transfer d o) (the_wire Connected at false (Was p) ls id el)) h
+      ≡ the_scene (the_state r (the_status x c m l e) act q (the_transfer d o) (the_wire Connected at false (Some p) ls id el)) h
       (the_target talking pa log (flat (seg p bs y ∷ g)))
   unfolding steps
   bus_named r x c m l e q d o at ls id el h pa log unasked (last k) = rw (lt-ltb _ 256 k, phase_round MessageIn)
@@ -67,7 +66,7 @@ module _ (j : Job) (whole : List Item) (total : List Note) where
       rw (phase_small ph, shown_byte (comes_in ph) b (f.bytes 0), phase_round ph, same_phase_lem ph)
 
   -- a phase goes out
-  give_on : {c m x pa el ow ct tm lu ph sy ds sr : ℕ} {l e at : Bool} {q : Fifo} {ls : Noted} {id : Kept} {cd y : List ℕ}
+  give_on : {c m x pa el ow ct tm lu ph sy ds sr : ℕ} {l e at : Bool} {q : Fifo} {ls : Option Phase} {id : Kept} {cd y : List ℕ}
       {t : List Item} {p : Phase} {log got : List Item} {n : List Note} (z b : ℕ) (rest give : List ℕ)
       → comes_in p ≡ false
       → Lined q []
@@ -75,7 +74,7 @@ module _ (j : Job) (whole : List Item) (total : List Note) where
       → Attends (by_phases j)
       (the_scene
       (the_state (the_registers ow ct tm cd lu ph sy (length (b ∷ rest) + length y) ds sr) (the_status x c m l e) (Runs TransferInfo) q (the_transfer Out false)
-      (the_wire Connected at false (Was p) ls id el)) (the_host [] false p (z ∷ give) got n) (the_target talking pa log (item p b ∷ t)))
+      (the_wire Connected at false (Some p) ls id el)) (the_host [] false p (z ∷ give) got n) (the_target talking pa log (item p b ∷ t)))
   unfolding steps
   give_on {y = y} {p = p} z b rest give e k s =
       record {
@@ -88,7 +87,7 @@ module _ (j : Job) (whole : List Item) (total : List Note) where
             (rw (phase_small p, phase_round p, e, same_phase_lem p, ne_eqb (suc (length rest) + length y) 0 (omega arith), empty_some (pushed z k (omega arith)))))));
       }
 
-  send_on : {c m x pa el ow ct tm lu ph sy ds sr : ℕ} {l e at : Bool} {q : Fifo} {ls : Noted} {id : Kept} {cd y : List ℕ}
+  send_on : {c m x pa el ow ct tm lu ph sy ds sr : ℕ} {l e at : Bool} {q : Fifo} {ls : Option Phase} {id : Kept} {cd y : List ℕ}
       {t : List Item} {p : Phase} {log got : List Item} {n : List Note} (fifo : List ℕ) (b : ℕ) (rest give : List ℕ)
       → comes_in p ≡ false
       → Lined q fifo
@@ -96,7 +95,7 @@ module _ (j : Job) (whole : List Item) (total : List Note) where
       → B
       (the_scene
       (the_state (the_registers ow ct tm cd lu ph sy (length (b ∷ rest) + length y) ds sr) (the_status x c m l e) (Runs TransferInfo) q (the_transfer Out false)
-      (the_wire Connected at false (Was p) ls id el)) (the_host [] false p give got n) (the_target talking pa log (item p b ∷ t)))
+      (the_wire Connected at false (Some p) ls id el)) (the_host [] false p give got n) (the_target talking pa log (item p b ∷ t)))
   unfolding steps
   send_on {y = y} {p = p} (z ∷ fifo) b rest give e k s =
       at_once (by_phases j) _ (rw (phase_small p, phase_round p, e, same_phase_lem p, ne_eqb (suc (length rest) + length y) 0 (omega arith), empty_some k))
@@ -107,7 +106,7 @@ module _ (j : Job) (whole : List Item) (total : List Note) where
       (give_on z b rest give e k s))
 
   -- a phase comes in
-  read_on : {c m x pa el ow ct tm lu ph sy ds sr : ℕ} {l e at : Bool} {q : Fifo} {ls : Noted} {id : Kept} {cd v : List ℕ}
+  read_on : {c m x pa el ow ct tm lu ph sy ds sr : ℕ} {l e at : Bool} {q : Fifo} {ls : Option Phase} {id : Kept} {cd v : List ℕ}
       {t : List Item} {p : Phase} {log got : List Item} {n : List Note} (z u : ℕ) (fifo : List ℕ) (b : ℕ) (rest y : List ℕ)
       → comes_in p ≡ true
       → is_message_in p ≡ false
@@ -116,7 +115,7 @@ module _ (j : Job) (whole : List Item) (total : List Note) where
       → Attends (by_phases j)
       (the_scene
       (the_state (the_registers ow ct tm cd lu ph sy (length (b ∷ rest) + length y) ds sr) (the_status x c m l e) (Runs TransferInfo) q (the_transfer In false)
-      (the_wire Connected at false (Was p) ls id el)) (the_host [] false p v got n) (the_target talking pa log (item p b ∷ t)))
+      (the_wire Connected at false (Some p) ls id el)) (the_host [] false p v got n) (the_target talking pa log (item p b ∷ t)))
   unfolding steps
   read_on {p = p} z u fifo b rest y e i k h =
       record {
@@ -139,7 +138,7 @@ module _ (j : Job) (whole : List Item) (total : List Note) where
             )))));
       }
 
-  take_on : {c m x pa el ow ct tm lu ph sy ds sr : ℕ} {l e at : Bool} {q : Fifo} {ls : Noted} {id : Kept} {cd v : List ℕ}
+  take_on : {c m x pa el ow ct tm lu ph sy ds sr : ℕ} {l e at : Bool} {q : Fifo} {ls : Option Phase} {id : Kept} {cd v : List ℕ}
       {t : List Item} {p : Phase} {log got : List Item} {n : List Note} (fifo : List ℕ) (b : ℕ) (rest y : List ℕ)
       → comes_in p ≡ true
       → is_message_in p ≡ false
@@ -148,7 +147,7 @@ module _ (j : Job) (whole : List Item) (total : List Note) where
       → B
       (the_scene
       (the_state (the_registers ow ct tm cd lu ph sy (length (b ∷ rest) + length y) ds sr) (the_status x c m l e) (Runs TransferInfo) q (the_transfer In false)
-      (the_wire Connected at false (Was p) ls id el)) (the_host [] false p v got n) (the_target talking pa log (item p b ∷ t)))
+      (the_wire Connected at false (Some p) ls id el)) (the_host [] false p v got n) (the_target talking pa log (item p b ∷ t)))
   unfolding steps
   take_on {p = p} [] b rest y e i k h = at_once (by_phases j) _ (rw (phase_small p, phase_round p, e, lt-ltb b 256 h, same_phase_lem p, ne_eqb (suc (length rest) + length y) 0 (omega arith), room_is k, i))
   take_on {p = p} (z ∷ []) b rest y e i k h = at_once (by_phases j) _ (rw (phase_small p, phase_round p, e, lt-ltb b 256 h, same_phase_lem p, ne_eqb (suc (length rest) + length y) 0 (omega arith), room_is k, i))
@@ -159,12 +158,12 @@ module _ (j : Job) (whole : List Item) (total : List Note) where
       (true_or_false (ltb (length (z ∷ u ∷ fifo)) 12))
 
   -- the phase's count is loaded, and Transfer Info written
-  command_on : {c m x pa el : ℕ} {l e at o f : Bool} {q : Fifo} {d : Direction} {ls : Noted} {id : Kept} {r : Registers}
+  command_on : {c m x pa el : ℕ} {l e at o f : Bool} {q : Fifo} {d : Direction} {ls : Option Phase} {id : Kept} {r : Registers}
       {bs y : List ℕ} {g : List Seg} {p : Phase} {log got : List Item} {n rest : List Note}
       → Counted j whole total p rest r n
       → Good j whole total (seg p bs y ∷ g)
       → Attends (by_phases j)
-      (the_scene (the_state r (the_status x c m l e) Idle q (the_transfer d o) (the_wire Connected at false (Was p) ls id el))
+      (the_scene (the_state r (the_status x c m l e) Idle q (the_transfer d o) (the_wire Connected at false (Some p) ls id el))
       (the_host (put 0x18 0x20 ∷ []) f p (give_for j p) got n) (the_target talking pa log (flat (seg p bs y ∷ g))))
   unfolding steps
   command_on k (last h) =
@@ -186,12 +185,12 @@ module _ (j : Job) (whole : List Item) (total : List Note) where
             (true_or_false (comes_in p));
       }
 
-  code_on : {c m pa el : ℕ} {l e at o : Bool} {q : Fifo} {d : Direction} {ls : Noted} {id : Kept} {bs y : List ℕ} {g : List Seg} {p : Phase}
+  code_on : {c m pa el : ℕ} {l e at o : Bool} {q : Fifo} {d : Direction} {ls : Option Phase} {id : Kept} {bs y : List ℕ} {g : List Seg} {p : Phase}
       {log got : List Item} {rest : List Note} {td : List Access} {x : ℕ} {f : Bool} {r : Registers} {n : List Note}
       → Plays (put 0x18 0x20 ∷ []) (Counted j whole total p rest) td r n
       → Good j whole total (seg p bs y ∷ g)
       → B
-      (the_scene (the_state r (the_status x c m l e) Idle q (the_transfer d o) (the_wire Connected at false (Was p) ls id el))
+      (the_scene (the_state r (the_status x c m l e) Idle q (the_transfer d o) (the_wire Connected at false (Some p) ls id el))
       (the_host td f p (give_for j p) got n) (the_target talking pa log (flat (seg p bs y ∷ g))))
   unfolding scenes
   code_on (over k) w = attend_at (by_phases j) (bus_named _ _ _ _ _ _ _ _ _ _ _ _ _ _ _ _ unasked w) (command_on k w)
@@ -203,13 +202,13 @@ module _ (j : Job) (whole : List Item) (total : List Note) where
       (get_done r c m l e Idle q d o _ refl (by_phases j) ph (give_for j ph) got n _ x f td k a u) (code_on p w)
 
   -- a code that names a phase is read
-  name_on : {c m x pa el : ℕ} {l e at o : Bool} {q : Fifo} {d : Direction} {ls : Noted} {id : Kept} {r : Registers}
+  name_on : {c m x pa el : ℕ} {l e at o : Bool} {q : Fifo} {d : Direction} {ls : Option Phase} {id : Kept} {r : Registers}
       {v bs y : List ℕ} {g : List Seg} {p cr : Phase} {log got : List Item} {n : List Note}
       → Names c p
       → Good j whole total (seg p bs y ∷ g)
       → Noting j whole total n (notes_of cr r.count ++ notes_after (seg p bs y ∷ g))
       → Attends (by_phases j)
-      (the_scene (the_state r (the_status x c m l e) Interrupt q (the_transfer d o) (the_wire Connected at false (Was p) ls id el))
+      (the_scene (the_state r (the_status x c m l e) Interrupt q (the_transfer d o) (the_wire Connected at false (Some p) ls id el))
       (the_host [] false cr v got n) (the_target talking pa log (flat (seg p bs y ∷ g))))
   unfolding steps serving
   name_on {c = c} {r = r} {p = p} {cr = cr} {n = n} k w t =
@@ -219,7 +218,7 @@ module _ (j : Job) (whole : List Item) (total : List Note) where
       }
 
   -- in an ending every phase is Held
-  bus_ending : (r : Registers) (x c k m : ℕ) (l e : Bool) (run : Command) (q : Fifo) (tr : Transfer) (at ak : Bool) (rp ls : Noted) (id : Kept) (el : ℕ) (h : Host) (pa : ℕ) (log : List Item)
+  bus_ending : (r : Registers) (x c k m : ℕ) (l e : Bool) (run : Command) (q : Fifo) (tr : Transfer) (at ak : Bool) (rp ls : Option Phase) (id : Kept) (el : ℕ) (h : Host) (pa : ℕ) (log : List Item)
       {p : Phase} {bs y : List ℕ} {g : List Seg}
       → Good j whole total (seg p bs y ∷ g)
       → bus step (by_phases j)
@@ -231,7 +230,7 @@ module _ (j : Job) (whole : List Item) (total : List Note) where
       rw (phase_small ph, shown_byte (comes_in ph) b (f.bytes 0))
 
   -- the bytes that came in are read out, then the code is raised
-  drain_on : {c k m pa el ow ct tm lu ph sy lf ds sr : ℕ} {l e at o : Bool} {ls : Noted} {id : Kept}
+  drain_on : {c k m pa el ow ct tm lu ph sy lf ds sr : ℕ} {l e at o : Bool} {ls : Option Phase} {id : Kept}
       {cd v bs y : List ℕ} {g : List Seg} {p cr : Phase} {log : List Item} {n : List Note} (fifo : List ℕ) {b x : ℕ} {q : Fifo} {got : List Item}
       → comes_in cr ≡ true
       → Lined q (b ∷ fifo)
@@ -241,7 +240,7 @@ module _ (j : Job) (whole : List Item) (total : List Note) where
       → Attends (by_phases j)
       (the_scene
       (the_state (the_registers ow ct tm cd lu ph sy lf ds sr) (the_status x c m l e) (Ends TransferInfo k) q (the_transfer In o)
-      (the_wire Connected at false (Was p) ls id el)) (the_host [] false cr v got n) (the_target talking pa log (flat (seg p bs y ∷ g))))
+      (the_wire Connected at false (Some p) ls id el)) (the_host [] false cr v got n) (the_target talking pa log (flat (seg p bs y ∷ g))))
   unfolding steps
   drain_on [] e k c w t =
       record {
@@ -259,14 +258,14 @@ module _ (j : Job) (whole : List Item) (total : List Note) where
       }
 
   -- the selection
-  select_on : {c m x pa el : ℕ} {l e at o f : Bool} {q : Fifo} {d : Direction} {rp ls : Noted} {id : Kept} {r : Registers} {n : List Note} {t : List Item}
+  select_on : {c m x pa el : ℕ} {l e at o f : Bool} {q : Fifo} {d : Direction} {rp ls : Option Phase} {id : Kept} {r : Registers} {n : List Note} {t : List Item}
       → B
       (the_scene (the_state r (the_status x c m l e) Idle q (the_transfer d o) (the_wire Disconnected at false rp ls id el))
       (the_host (put 0x18 0x06 ∷ []) f MessageOut [] [] n) (the_target calling pa [] t))
   unfolding steps
   select_on = attend (by_phases j) _ (record { asks = refl; on = now refl })
 
-  load_on : {c m pa el : ℕ} {l e at o : Bool} {q : Fifo} {d : Direction} {rp ls : Noted} {id : Kept} {t : List Item} {td : List Access} {x : ℕ}
+  load_on : {c m pa el : ℕ} {l e at o : Bool} {q : Fifo} {d : Direction} {rp ls : Option Phase} {id : Kept} {t : List Item} {td : List Access} {x : ℕ}
       {f : Bool} {r : Registers} {n : List Note}
       → Plays (put 0x18 0x06 ∷ []) (Ready j whole total) td r n
       → B
@@ -282,12 +281,12 @@ module _ (j : Job) (whole : List Item) (total : List Note) where
       (get_done r c m l e Idle q d o _ refl (by_phases j) MessageOut [] [] n _ x f td k a u) (load_on p)
 
   -- the first phase is reported, after 11h
-  wait_on : {c m x pa el : ℕ} {l e at o : Bool} {q : Fifo} {d : Direction} {ls : Noted} {id : Kept} {r : Registers} {g : List Seg} {n : List Note}
+  wait_on : {c m x pa el : ℕ} {l e at o : Bool} {q : Fifo} {d : Direction} {ls : Option Phase} {id : Kept} {r : Registers} {g : List Seg} {n : List Note}
       → Quiet d q
       → Good j whole total g
       → Noting j whole total n (notes_after g)
       → B
-      (the_scene (the_state r (the_status x c m l e) Idle q (the_transfer d o) (the_wire Connected at false NoPhase ls id el))
+      (the_scene (the_state r (the_status x c m l e) Idle q (the_transfer d o) (the_wire Connected at false None ls id el))
       (the_host [] false MessageOut [] [] n) (the_target talking pa [] (flat g)))
   unfolding steps
   wait_on unfixed (last h) t = attend (by_phases j) _ (rw (lt-ltb _ 256 h, phase_round MessageIn) (name_on S.asked (last h) t))
@@ -297,22 +296,22 @@ module _ (j : Job) (whole : List Item) (total : List Note) where
   wait_on (drained z) (more {p = ph} {b = b} f a d g) t =
       attend (by_phases j) _ (rw (phase_small ph, shown_byte (comes_in ph) b (f.bytes 0), phase_round ph) (name_on S.asked (more f a d g) t))
 
-  greet_on : {m x pa el : ℕ} {l e at o : Bool} {q : Fifo} {d : Direction} {ls : Noted} {id : Kept} {r : Registers} {g : List Seg} {n : List Note}
+  greet_on : {m x pa el : ℕ} {l e at o : Bool} {q : Fifo} {d : Direction} {ls : Option Phase} {id : Kept} {r : Registers} {g : List Seg} {n : List Note}
       → Quiet d q
       → Good j whole total g
       → Noting j whole total n (notes_after g)
       → Attends (by_phases j)
-      (the_scene (the_state r (the_status x 0x11 m l e) Interrupt q (the_transfer d o) (the_wire Connected at false NoPhase ls id el))
+      (the_scene (the_state r (the_status x 0x11 m l e) Interrupt q (the_transfer d o) (the_wire Connected at false None ls id el))
       (the_host [] false MessageOut [] [] n) (the_target talking pa [] (flat g)))
   unfolding steps
   greet_on k w t = record { asks = rw asked_is; on = rw asked_is (rw (heard_11 j) (wait_on k w t)) }
 
-  greet_held : {m x pa el : ℕ} {l e at o : Bool} {q : Fifo} {d : Direction} {ls : Noted} {id : Kept} {r : Registers} {g : List Seg} {n : List Note}
+  greet_held : {m x pa el : ℕ} {l e at o : Bool} {q : Fifo} {d : Direction} {ls : Option Phase} {id : Kept} {r : Registers} {g : List Seg} {n : List Note}
       → Quiet d q
       → Good j whole total g
       → Noting j whole total n (notes_after g)
       → B
-      (the_scene (the_state r (the_status x 0x11 m l e) Interrupt q (the_transfer d o) (the_wire Connected at false NoPhase ls id el))
+      (the_scene (the_state r (the_status x 0x11 m l e) Interrupt q (the_transfer d o) (the_wire Connected at false None ls id el))
       (the_host [] false MessageOut [] [] n) (the_target talking pa [] (flat g)))
   unfolding steps
   greet_held k (last h) t = attend (by_phases j) _ (rw (lt-ltb _ 256 h) (greet_on k (last h) t))
@@ -320,21 +319,21 @@ module _ (j : Job) (whole : List Item) (total : List Note) where
       attend (by_phases j) _ (rw (phase_small ph, shown_byte (comes_in ph) b (f.bytes 0)) (greet_on k (more f a d g) t))
 
   -- a phase is over: another is offered
-  next_on : {c m x pa el ow ct tm lu ph sy ds sr : ℕ} {l e at : Bool} {q : Fifo} {ls : Noted} {id : Kept} {cd v : List ℕ}
+  next_on : {c m x pa el ow ct tm lu ph sy ds sr : ℕ} {l e at : Bool} {q : Fifo} {ls : Option Phase} {id : Kept} {cd v : List ℕ}
       {g : List Seg} {p : Phase} {log got : List Item} {n : List Note} (y : List ℕ)
       → After j whole total p g
       → Noting j whole total n (notes_of p (length y) ++ notes_after g)
       → B
       (the_scene
       (the_state (the_registers ow ct tm cd lu ph sy (0 + length y) ds sr) (the_status x c m l e) (Runs TransferInfo) q (the_transfer Out false)
-      (the_wire Connected at false (Was p) ls id el)) (the_host [] false p v got n) (the_target talking pa log (flat g)))
+      (the_wire Connected at false (Some p) ls id el)) (the_host [] false p v got n) (the_target talking pa log (flat g)))
   unfolding steps
   next_on {p = p} y (next {q = q} {c = c} {cs = cs} {y = y'} {gs = gs} z d g) t =
       attend (by_phases j) _
       (rw (phase_small q, shown_byte (comes_in q) c (good_byte g), phase_round q, d)
       (name_on (S.over (eqb (0 + length y) 0)) g (noting_on (seg q (c ∷ cs) y' ∷ gs) p (length y) t)))
 
-  turn_on : {c m x pa el ow ct tm lu ph sy ds sr : ℕ} {l e at : Bool} {q : Fifo} {ls : Noted} {id : Kept} {cd v : List ℕ}
+  turn_on : {c m x pa el ow ct tm lu ph sy ds sr : ℕ} {l e at : Bool} {q : Fifo} {ls : Option Phase} {id : Kept} {cd v : List ℕ}
       {g : List Seg} {p : Phase} {log got : List Item} {n : List Note} (fifo y : List ℕ)
       → comes_in p ≡ true
       → Lined q fifo
@@ -343,7 +342,7 @@ module _ (j : Job) (whole : List Item) (total : List Note) where
       → B
       (the_scene
       (the_state (the_registers ow ct tm cd lu ph sy (0 + length y) ds sr) (the_status x c m l e) (Runs TransferInfo) q (the_transfer In false)
-      (the_wire Connected at false (Was p) ls id el)) (the_host [] false p v got n) (the_target talking pa log (flat g)))
+      (the_wire Connected at false (Some p) ls id el)) (the_host [] false p v got n) (the_target talking pa log (flat g)))
   unfolding steps
   turn_on {p = p} [] y e k (next {q = q} {c = c} {cs = cs} {y = y'} {gs = gs} z d g) t =
       attend (by_phases j) _
@@ -355,7 +354,7 @@ module _ (j : Job) (whole : List Item) (total : List Note) where
       (drain_on fifo e k (S.over (eqb (0 + length y) 0)) g (noting_on (seg q (c ∷ cs) y' ∷ gs) p (length y) t)))
 
   -- Message In is over
-  pause_on : {m x pa el : ℕ} {l e at o : Bool} {q : Fifo} {d : Direction} {rp ls : Noted} {id : Kept} {r : Registers} {v : List ℕ}
+  pause_on : {m x pa el : ℕ} {l e at o : Bool} {q : Fifo} {d : Direction} {rp ls : Option Phase} {id : Kept} {r : Registers} {v : List ℕ}
       {log got : List Item} {n : List Note} {hp : Phase}
       → B
       (the_scene (the_state r (the_status x 0x20 m l e) Interrupt q (the_transfer d o) (the_wire Connected at true rp ls id el))
@@ -363,7 +362,7 @@ module _ (j : Job) (whole : List Item) (total : List Note) where
   unfolding steps
   pause_on = attend (by_phases j) _ (record { asks = rw asked_is; on = rw asked_is (rw (heard_20 j) (now refl)) })
 
-  close_on : {c m x pa el b : ℕ} {l e at o : Bool} {q : Fifo} {rp ls : Noted} {id : Kept} {r : Registers} {v : List ℕ}
+  close_on : {c m x pa el b : ℕ} {l e at o : Bool} {q : Fifo} {rp ls : Option Phase} {id : Kept} {r : Registers} {v : List ℕ}
       {log got : List Item} {n : List Note}
       → Lined q (b ∷ [])
       → B
@@ -377,7 +376,7 @@ module _ (j : Job) (whole : List Item) (total : List Note) where
         on = rw (asked_is, empty_some k) (rw (empty_some k, front_is k, empty_none (popped k)) pause_on);
       })
 
-  rest_on : {c m x pa el : ℕ} {l e at o : Bool} {q : Fifo} {d : Direction} {rp ls : Noted} {id : Kept} {r : Registers} {v : List ℕ}
+  rest_on : {c m x pa el : ℕ} {l e at o : Bool} {q : Fifo} {d : Direction} {rp ls : Option Phase} {id : Kept} {r : Registers} {v : List ℕ}
       {log got : List Item} {n : List Note} {hp : Phase}
       → Quiet d q
       → B
@@ -387,7 +386,7 @@ module _ (j : Job) (whole : List Item) (total : List Note) where
   rest_on unfixed = at_once (by_phases j) _ (rw asked_is)
   rest_on (drained f) = at_once (by_phases j) _ (rw (asked_is, f))
 
-  free_on : {m x pa el : ℕ} {l e at o : Bool} {q : Fifo} {d : Direction} {rp ls : Noted} {id : Kept} {r : Registers} {v : List ℕ}
+  free_on : {m x pa el : ℕ} {l e at o : Bool} {q : Fifo} {d : Direction} {rp ls : Option Phase} {id : Kept} {r : Registers} {v : List ℕ}
       {log got : List Item} {n : List Note} {hp : Phase}
       → Quiet d q
       → B
@@ -396,7 +395,7 @@ module _ (j : Job) (whole : List Item) (total : List Note) where
   unfolding steps
   free_on k = attend (by_phases j) _ (record { asks = rw asked_is; on = rw asked_is (rw (heard_85 j) (rest_on k)) })
 
-  late_on : {m x pa el : ℕ} {l e at o f : Bool} {q : Fifo} {d : Direction} {rp ls : Noted} {id : Kept} {r : Registers} {v : List ℕ}
+  late_on : {m x pa el : ℕ} {l e at o f : Bool} {q : Fifo} {d : Direction} {rp ls : Option Phase} {id : Kept} {r : Registers} {v : List ℕ}
       {log got : List Item} {n : List Note} {hp : Phase}
       → Quiet d q
       → B

@@ -2,6 +2,7 @@
 --   Apart      what such a state comes to, part by part
 --   apart      of every state reached
 --   transfer_plays, phases_plays   what each host loads leads to its goal
+use Rattle.std.specs.Prelude.{Option}
 use mathlib.Core.Path.{◌≡◌, refl, sym, ◌∙◌, ap, subst}
 use mathlib.Core.Bool.{Bool, true, false, true≢false}
 use mathlib.Core.List.{List, [], ◌∷◌, ◌++◌, append_assoc, append-nil}
@@ -22,7 +23,6 @@ use Rattle.chip.specs.Registers.{stored_in}
 use Rattle.chip.specs.declared.State.{State}
 use Rattle.chip.specs.declared.Registers.{Registers}
 use Rattle.chip.specs.declared.Fifo.{Fifo}
-use Rattle.chip.specs.declared.Noted.{Noted}
 use Rattle.chip.specs.declared.Connection.{Connection}
 use Rattle.chip.specs.declared.Connection.TheVariants.{Disconnected}
 use Rattle.chip.specs.declared.Activity.{Activity}
@@ -31,6 +31,7 @@ use Rattle.chip.specs.declared.Direction.{Direction}
 use Rattle.chip.specs.declared.Direction.TheVariants.{Unfixed, In, Out}
 use Rattle.chip.specs.Ok.{Bytes}
 use Rattle.chip.specs.Interrupts.{is_outgoing}
+use Rattle.chip.specs.declared.Phase.{Phase}
 use Rattle.reached.specs.Sound.{Sound, Shape, joined}
 use Rattle.reached.specs.Sound as Sound
 use Rattle.reached.proofs.Laws.{reached}
@@ -61,7 +62,7 @@ record Calm (d : Direction) (q : Fifo) (k : Bool) : Type 0 where
   quiet : Quiet d q
   ack : k ≡ false
 
-calm : {single : Bool} {n : ℕ} {x : Activity} {c : Connection} {d : Direction} {q : Fifo} {atn ack : Bool} {w : Noted}
+calm : {single : Bool} {n : ℕ} {x : Activity} {c : Connection} {d : Direction} {q : Fifo} {atn ack : Bool} {w : Option Phase}
     → Shape single n x c d q atn ack w → x ≡ Idle → c ≡ Disconnected → Calm d q ack
 calm {d = d} (Sound.idle e f g Sound.apart) h k = record { quiet = quiet_way d f g; ack = refl }
 calm (Sound.idle e f g joined) h k = let z : ◌≡◌ {A = ℕ} 0 1 = cc in absurd (omega arith)

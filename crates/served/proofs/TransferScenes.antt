@@ -4,6 +4,7 @@
 --   Coming    data on their way in: what the host has, what waits in the FIFO, what is still to cross
 --   Left      what is left of the data once the status has crossed
 --   Reach     the scenes
+use Rattle.std.specs.Prelude.{Option}
 use mathlib.Core.Path.{◌≡◌}
 use mathlib.Core.Bool.{Bool, true, false}
 use mathlib.Core.List.{List, [], ◌∷◌, ◌++◌}
@@ -20,7 +21,6 @@ use Rattle.chip.specs.declared.Command.TheVariants.{SelectAndTransferWithAtn}
 use Rattle.chip.specs.declared.Activity.TheVariants.{Idle, Interrupt, Runs, Ends}
 use Rattle.chip.specs.declared.Direction.{Direction}
 use Rattle.chip.specs.declared.Direction.TheVariants.{Unfixed, In, Out}
-use Rattle.chip.specs.declared.Noted.{Noted}
 use Rattle.chip.specs.declared.Phase.{Phase}
 use Rattle.chip.specs.declared.Phase.TheVariants.{DataOut, DataIn, CommandOut, MessageOut, MessageIn}
 use Rattle.chip.specs.Ok.{Bytes}
@@ -91,7 +91,7 @@ module _ (j : Job) where
   story_of w = item MessageOut (identifies j) ∷ (items CommandOut j.command ++ (items (way_phase w) j.moved ++ close j))
 
   pub data Reach : Scene → Type 0 where
-    loads : {c m x pa el : ℕ} {l e at o f : Bool} {q : Fifo} {d : Direction} {rp ls : Noted} {id : Kept} {td : List Access} {r : Registers}
+    loads : {c m x pa el : ℕ} {l e at o f : Bool} {q : Fifo} {d : Direction} {rp ls : Option Phase} {id : Kept} {td : List Access} {r : Registers}
         {w : Way} {v : List ℕ} {n : List Note}
         → Plays (put 0x18 0x08 ∷ []) Ready td r n
         → Aimed td f x
@@ -101,7 +101,7 @@ module _ (j : Job) where
         → Reach
         (the_scene (the_state r (the_status x c m l e) Idle q (the_transfer d o) (the_wire Disconnected at false rp ls id el))
         (the_host td f (way_phase w) v [] n) (the_target calling pa [] (story_of w)))
-    seeks : {c m x pa el ow ct tm lu sy ds sr : ℕ} {l e at f : Bool} {rp ls : Noted} {id : Kept} {td : List Access} {cd v : List ℕ} {w : Way}
+    seeks : {c m x pa el ow ct tm lu sy ds sr : ℕ} {l e at f : Bool} {rp ls : Option Phase} {id : Kept} {td : List Access} {cd v : List ℕ} {w : Way}
         → Set cd lu sr
         → Polls false false false td f x
         → Hands w j.moved v
@@ -111,7 +111,7 @@ module _ (j : Job) where
         (the_scene
         (the_state (the_registers ow ct tm cd lu 0x00 sy (loaded j) ds sr) (the_status x c m l e) (Runs SelectAndTransferWithAtn) empty (the_transfer Unfixed false)
         (the_wire Selecting at false rp ls id el)) (the_host td f (way_phase w) v [] []) (the_target calling pa [] (story_of w)))
-    greets : {c m x pa el ow ct tm lu sy ds sr : ℕ} {l e at f : Bool} {rp ls : Noted} {id : Kept} {td : List Access} {cd v : List ℕ} {w : Way}
+    greets : {c m x pa el ow ct tm lu sy ds sr : ℕ} {l e at f : Bool} {rp ls : Option Phase} {id : Kept} {td : List Access} {cd v : List ℕ} {w : Way}
         → Set cd lu sr
         → Polls false false false td f x
         → Hands w j.moved v
@@ -120,7 +120,7 @@ module _ (j : Job) where
         (the_scene
         (the_state (the_registers ow ct tm cd lu 0x10 sy (loaded j) ds sr) (the_status x c m l e) (Runs SelectAndTransferWithAtn) empty (the_transfer Unfixed false)
         (the_wire Connected at false rp ls id el)) (the_host td f (way_phase w) v [] []) (the_target talking pa [] (story_of w)))
-    commands : {c m x pa el ow ct tm lu sy ds sr ph : ℕ} {l e at f : Bool} {rp ls : Noted} {id : Kept} {td : List Access} {cd v : List ℕ} {w : Way}
+    commands : {c m x pa el ow ct tm lu sy ds sr ph : ℕ} {l e at f : Bool} {rp ls : Option Phase} {id : Kept} {td : List Access} {cd v : List ℕ} {w : Way}
         {log : List Item} (had rest d : List ℕ)
         → Set cd lu sr
         → Polls false false false td f x
@@ -134,7 +134,7 @@ module _ (j : Job) where
         (the_state (the_registers ow ct tm cd lu ph sy (length d + length j.beyond) ds sr) (the_status x c m l e) (Runs SelectAndTransferWithAtn) empty
         (the_transfer Unfixed false) (the_wire Connected at false rp ls id el)) (the_host td f (way_phase w) v [] [])
         (the_target talking pa log (items CommandOut rest ++ (items (way_phase w) d ++ close j))))
-    comes : {c m x pa el ow ct tm lu sy ds sr ph : ℕ} {l e at f : Bool} {rp ls : Noted} {id : Kept} {td : List Access} {cd : List ℕ}
+    comes : {c m x pa el ow ct tm lu sy ds sr ph : ℕ} {l e at f : Bool} {rp ls : Option Phase} {id : Kept} {td : List Access} {cd : List ℕ}
         {log got : List Item} {q : Fifo} (fifo rest : List ℕ)
         → j.way ≡ inward
         → Set cd lu sr
@@ -148,7 +148,7 @@ module _ (j : Job) where
         (the_state (the_registers ow ct tm cd lu ph sy (length rest + length j.beyond) ds sr) (the_status x c m l e) (Runs SelectAndTransferWithAtn) q
         (the_transfer In false) (the_wire Connected at false rp ls id el)) (the_host td f DataIn [] got [])
         (the_target talking pa log (items DataIn rest ++ close j)))
-    goes : {c m x pa el ow ct tm lu sy ds sr ph : ℕ} {l e at f : Bool} {rp ls : Noted} {id : Kept} {td : List Access} {cd : List ℕ}
+    goes : {c m x pa el ow ct tm lu sy ds sr ph : ℕ} {l e at f : Bool} {rp ls : Option Phase} {id : Kept} {td : List Access} {cd : List ℕ}
         {log : List Item} {q : Fifo} (fifo rest give : List ℕ)
         → j.way ≡ outward
         → Set cd lu sr
@@ -162,7 +162,7 @@ module _ (j : Job) where
         (the_state (the_registers ow ct tm cd lu ph sy (length rest + length j.beyond) ds sr) (the_status x c m l e) (Runs SelectAndTransferWithAtn) q
         (the_transfer Out false) (the_wire Connected at false rp ls id el)) (the_host td f DataOut give [] [])
         (the_target talking pa log (items DataOut rest ++ close j)))
-    statuses : {c m x pa el ow ct tm sy ds sr n : ℕ} {l e at f wt : Bool} {rp ls : Noted} {id : Kept} {td : List Access} {cd v : List ℕ} {hp : Phase}
+    statuses : {c m x pa el ow ct tm sy ds sr n : ℕ} {l e at f wt : Bool} {rp ls : Option Phase} {id : Kept} {td : List Access} {cd v : List ℕ} {hp : Phase}
         {log got : List Item} {q : Fifo} {d : Direction}
         → Polls false wt true td f x
         → Left wt d q got hp
@@ -173,7 +173,7 @@ module _ (j : Job) where
         (the_scene
         (the_state (the_registers ow ct tm cd j.status 0x50 sy n ds sr) (the_status x c m l e) (Runs SelectAndTransferWithAtn) q (the_transfer d false)
         (the_wire Connected at false rp ls id el)) (the_host td f hp v got []) (the_target talking pa log (item MessageIn 0x00 ∷ [])))
-    ends : {c m x pa el ow ct tm sy ds sr n b : ℕ} {l e at f : Bool} {rp ls : Noted} {id : Kept} {td : List Access} {cd v : List ℕ}
+    ends : {c m x pa el ow ct tm sy ds sr n b : ℕ} {l e at f : Bool} {rp ls : Option Phase} {id : Kept} {td : List Access} {cd v : List ℕ}
         {got : List Item} {q : Fifo} (fifo : List ℕ)
         → Polls false true true td f x
         → j.way ≡ inward
@@ -185,7 +185,7 @@ module _ (j : Job) where
         (the_scene
         (the_state (the_registers ow ct tm cd j.status 0x60 sy n ds sr) (the_status x c m l e) (Ends SelectAndTransferWithAtn 0x16) q (the_transfer In false)
         (the_wire Connected at false rp ls id el)) (the_host td f DataIn v got []) (the_target talking pa (story j) []))
-    told : {m x pa el ow ct tm sy ds sr n : ℕ} {l e at f o : Bool} {rp ls : Noted} {id : Kept} {td : List Access} {cd v : List ℕ} {hp : Phase}
+    told : {m x pa el ow ct tm sy ds sr n : ℕ} {l e at f o : Bool} {rp ls : Option Phase} {id : Kept} {td : List Access} {cd v : List ℕ} {hp : Phase}
         {got : List Item} {q : Fifo} {d : Direction}
         → Polls true false true td f x
         → Quiet d q
@@ -196,7 +196,7 @@ module _ (j : Job) where
         (the_scene
         (the_state (the_registers ow ct tm cd j.status 0x60 sy n ds sr) (the_status x 0x16 m l e) Interrupt q (the_transfer d o)
         (the_wire Connected at false rp ls id el)) (the_host td f hp v got []) (the_target talking pa (story j) []))
-    calm : {c m x pa el : ℕ} {l e at f o : Bool} {rp ls : Noted} {id : Kept} {td : List Access} {v : List ℕ} {hp : Phase} {got : List Item}
+    calm : {c m x pa el : ℕ} {l e at f o : Bool} {rp ls : Option Phase} {id : Kept} {td : List Access} {v : List ℕ} {hp : Phase} {got : List Item}
         {q : Fifo} {d : Direction} {r : Registers} {n : List Note}
         → Closes false td f x r n
         → Quiet d q
@@ -205,7 +205,7 @@ module _ (j : Job) where
         → Reach
         (the_scene (the_state r (the_status x c m l e) Idle q (the_transfer d o) (the_wire Connected at false rp ls id el))
         (the_host td f hp v got n) (the_target talking pa (story j) []))
-    gone : {m x pa el : ℕ} {l e at f o : Bool} {rp ls : Noted} {id : Kept} {td : List Access} {v : List ℕ} {hp : Phase} {got : List Item}
+    gone : {m x pa el : ℕ} {l e at f o : Bool} {rp ls : Option Phase} {id : Kept} {td : List Access} {v : List ℕ} {hp : Phase} {got : List Item}
         {q : Fifo} {d : Direction} {r : Registers} {n : List Note}
         → Closes true td f x r n
         → Quiet d q
@@ -214,7 +214,7 @@ module _ (j : Job) where
         → Reach
         (the_scene (the_state r (the_status x 0x85 m l e) Interrupt q (the_transfer d o) (the_wire Disconnected at false rp ls id el))
         (the_host td f hp v got n) (the_target away pa (story j) []))
-    rests : {c m x pa el : ℕ} {l e at f o : Bool} {rp ls : Noted} {id : Kept} {td : List Access} {v : List ℕ} {hp : Phase} {got : List Item}
+    rests : {c m x pa el : ℕ} {l e at f o : Bool} {rp ls : Option Phase} {id : Kept} {td : List Access} {v : List ℕ} {hp : Phase} {got : List Item}
         {q : Fifo} {d : Direction} {r : Registers} {n : List Note}
         → Polls false false true td f x
         → Finals r n

@@ -1,6 +1,7 @@
 -- The demand for the host that serves by one Select-And-Transfer, from every scene that can be reached.
 --   brought   the Target is brought on
 --   serves    the promise, after every schedule
+use Rattle.std.specs.Prelude.{Option}
 use mathlib.Core.Path.{◌≡◌, refl, sym, ◌∙◌, ap}
 use mathlib.Core.Bool.{Bool, true, false}
 use mathlib.Core.List.{List, [], ◌∷◌, ◌++◌, append-nil}
@@ -26,7 +27,6 @@ use Rattle.chip.specs.declared.Command.TheVariants.{SelectAndTransferWithAtn}
 use Rattle.chip.specs.declared.Activity.TheVariants.{Idle, Interrupt, Runs, Ends}
 use Rattle.chip.specs.declared.Direction.{Direction}
 use Rattle.chip.specs.declared.Direction.TheVariants.{Unfixed, In, Out}
-use Rattle.chip.specs.declared.Noted.{Noted}
 use Rattle.chip.specs.declared.Phase.{Phase}
 use Rattle.chip.specs.declared.Phase.TheVariants.{DataOut, DataIn, CommandOut, StatusIn}
 use Rattle.chip.specs.Ok.{Bytes}
@@ -51,7 +51,7 @@ module _ {s₀ : State} (j : Job) (pr : Proper s₀ j) where
   B c = Brought step (by_transfer j) c
 
   -- the host loads the registers, and writes the command
-  command_on : {c m x pa el : ℕ} {l e at o f : Bool} {q : Fifo} {d : Direction} {rp ls : Noted} {id : Kept} {r : Registers}
+  command_on : {c m x pa el : ℕ} {l e at o f : Bool} {q : Fifo} {d : Direction} {rp ls : Option Phase} {id : Kept} {r : Registers}
       {v : List ℕ} {n : List Note} {hp : Phase} {t : List Item}
       → Ready j r n
       → B
@@ -61,7 +61,7 @@ module _ {s₀ : State} (j : Job) (pr : Proper s₀ j) where
   command_on {r = r} g =
       attend (by_transfer j) _ (record { asks = refl; on = rw (lt-ltb 0 (size_of (get_or r.descriptor.cdb 0 0)) (has_size_lem j pr g.set)) (now refl) })
 
-  load_on : {c m pa el : ℕ} {l e at o : Bool} {q : Fifo} {d : Direction} {rp ls : Noted} {id : Kept} {v : List ℕ} {hp : Phase} {t : List Item}
+  load_on : {c m pa el : ℕ} {l e at o : Bool} {q : Fifo} {d : Direction} {rp ls : Option Phase} {id : Kept} {v : List ℕ} {hp : Phase} {t : List Item}
       {td : List Access} {x : ℕ} {f : Bool} {r : Registers} {n : List Note}
       → Plays (put 0x18 0x08 ∷ []) (Ready j) td r n
       → B
@@ -77,7 +77,7 @@ module _ {s₀ : State} (j : Job) (pr : Proper s₀ j) where
       (get_done r c m l e Idle q d o _ refl (by_transfer j) hp v [] n _ x f td k a u) (load_on p)
 
   -- the first byte goes into the FIFO, and is taken from there
-  give_on : {c m x pa el ow ct tm lu sy ds sr ph : ℕ} {l e at : Bool} {rp ls : Noted} {id : Kept} {cd : List ℕ} {log t : List Item} {q : Fifo}
+  give_on : {c m x pa el ow ct tm lu sy ds sr ph : ℕ} {l e at : Bool} {rp ls : Option Phase} {id : Kept} {cd : List ℕ} {log t : List Item} {q : Fifo}
       (y z : ℕ) (rest give : List ℕ)
       → Lined q []
       → stage_of true ph (size_of (get_or cd 0 0)) ≡ Body
@@ -98,7 +98,7 @@ module _ {s₀ : State} (j : Job) (pr : Proper s₀ j) where
       }
 
   -- the command is sent
-  commands_on : {c m x pa el ow ct tm lu sy ds sr ph : ℕ} {l e at : Bool} {rp ls : Noted} {id : Kept} {cd v : List ℕ} {w : Way} {log : List Item}
+  commands_on : {c m x pa el ow ct tm lu sy ds sr ph : ℕ} {l e at : Bool} {rp ls : Option Phase} {id : Kept} {cd v : List ℕ} {w : Way} {log : List Item}
       (had rest d : List ℕ)
       → Set j cd lu sr
       → Hands j w d v
@@ -123,7 +123,7 @@ module _ {s₀ : State} (j : Job) (pr : Proper s₀ j) where
       (give_on y x d v none_lined (full_is j pr ph had s q e) (record { line = g; bytes = b })))
 
   -- the FIFO is full: the host reads a byte, and the next has room
-  take_on : {c m x pa el ow ct tm lu sy ds sr ph : ℕ} {l e at : Bool} {rp ls : Noted} {id : Kept} {cd : List ℕ} {log got t : List Item} {q : Fifo}
+  take_on : {c m x pa el ow ct tm lu sy ds sr ph : ℕ} {l e at : Bool} {rp ls : Option Phase} {id : Kept} {cd : List ℕ} {log got t : List Item} {q : Fifo}
       (y z : ℕ) (fifo : List ℕ) (b : ℕ) (rest : List ℕ)
       → Lined q (y ∷ z ∷ fifo)
       → stage_of true ph (size_of (get_or cd 0 0)) ≡ Body
@@ -151,7 +151,7 @@ module _ {s₀ : State} (j : Job) (pr : Proper s₀ j) where
       }
 
   -- data come in
-  come_on : {c m x pa el ow ct tm lu sy ds sr ph : ℕ} {l e at : Bool} {rp ls : Noted} {id : Kept} {cd : List ℕ} {log got : List Item} {q : Fifo}
+  come_on : {c m x pa el ow ct tm lu sy ds sr ph : ℕ} {l e at : Bool} {rp ls : Option Phase} {id : Kept} {cd : List ℕ} {log got : List Item} {q : Fifo}
       (fifo rest : List ℕ)
       → Lined q fifo
       → Coming j got fifo rest
@@ -179,7 +179,7 @@ module _ {s₀ : State} (j : Job) (pr : Proper s₀ j) where
       (true_or_false (ltb (length (y ∷ z ∷ fifo)) 12))
 
   -- data go out
-  go_on : {c m x pa el ow ct tm lu sy ds sr ph : ℕ} {l e at : Bool} {rp ls : Noted} {id : Kept} {cd : List ℕ} {log : List Item} {q : Fifo}
+  go_on : {c m x pa el ow ct tm lu sy ds sr ph : ℕ} {l e at : Bool} {rp ls : Option Phase} {id : Kept} {cd : List ℕ} {log : List Item} {q : Fifo}
       (fifo rest give : List ℕ)
       → Lined q fifo
       → Going fifo rest give j.beyond
@@ -201,7 +201,7 @@ module _ {s₀ : State} (j : Job) (pr : Proper s₀ j) where
       (rw (s, ne_eqb (suc (length rest) + length j.beyond) 0 (omega arith), empty_none n) (give_on y x rest give n s i))
 
   -- 16h waits until the data are read out, and the bus until 16h is read
-  tell_on : {m x pa el ow ct tm sy ds sr n : ℕ} {l e at o : Bool} {rp ls : Noted} {id : Kept} {cd v : List ℕ} {hp : Phase} {log got : List Item}
+  tell_on : {m x pa el ow ct tm sy ds sr n : ℕ} {l e at o : Bool} {rp ls : Option Phase} {id : Kept} {cd v : List ℕ} {hp : Phase} {log got : List Item}
       {q : Fifo} {d : Direction}
       → B
       (the_scene
@@ -210,7 +210,7 @@ module _ {s₀ : State} (j : Job) (pr : Proper s₀ j) where
   unfolding steps
   tell_on = attend (by_transfer j) _ (record { asks = rw asked_is; on = rw asked_is (now refl) })
 
-  end_on : {c m pa el ow ct tm sy ds sr n : ℕ} {l e at : Bool} {rp ls : Noted} {id : Kept} {cd v : List ℕ} {log : List Item}
+  end_on : {c m pa el ow ct tm sy ds sr n : ℕ} {l e at : Bool} {rp ls : Option Phase} {id : Kept} {cd v : List ℕ} {log : List Item}
       (fifo : List ℕ) {b x : ℕ} {q : Fifo} {got : List Item}
       → Lined q (b ∷ fifo)
       → B
@@ -232,7 +232,7 @@ module _ {s₀ : State} (j : Job) (pr : Proper s₀ j) where
       })
 
   -- the bus is free: the host reads on to its end
-  rest_on : {c m x pa el : ℕ} {l e at o : Bool} {rp ls : Noted} {id : Kept} {v : List ℕ} {hp : Phase} {log got : List Item}
+  rest_on : {c m x pa el : ℕ} {l e at o : Bool} {rp ls : Option Phase} {id : Kept} {v : List ℕ} {hp : Phase} {log got : List Item}
       {q : Fifo} {d : Direction} {r : Registers} {n : List Note}
       → Quiet d q
       → B
@@ -242,7 +242,7 @@ module _ {s₀ : State} (j : Job) (pr : Proper s₀ j) where
   rest_on unfixed = at_once (by_transfer j) _ (rw asked_is)
   rest_on (drained f) = at_once (by_transfer j) _ (rw (asked_is, f))
 
-  free_on : {m x pa el : ℕ} {l e at o : Bool} {rp ls : Noted} {id : Kept} {v : List ℕ} {hp : Phase} {log got : List Item}
+  free_on : {m x pa el : ℕ} {l e at o : Bool} {rp ls : Option Phase} {id : Kept} {v : List ℕ} {hp : Phase} {log got : List Item}
       {q : Fifo} {d : Direction} {r : Registers} {n : List Note}
       → Quiet d q
       → B
@@ -251,7 +251,7 @@ module _ {s₀ : State} (j : Job) (pr : Proper s₀ j) where
   unfolding steps
   free_on k = attend (by_transfer j) _ (record { asks = rw asked_is; on = rw asked_is (rest_on k) })
 
-  read_on : {m pa el : ℕ} {l e at o : Bool} {rp ls : Noted} {id : Kept} {v : List ℕ} {hp : Phase} {log got : List Item}
+  read_on : {m pa el : ℕ} {l e at o : Bool} {rp ls : Option Phase} {id : Kept} {v : List ℕ} {hp : Phase} {log got : List Item}
       {q : Fifo} {d : Direction} {td : List Access} {x : ℕ} {f : Bool} {r : Registers} {n : List Note}
       → Quiet d q
       → Aimed td f x

@@ -1,53 +1,43 @@
 // What the controller is at, by its numbers, and the questions that rules ask of it (chip's specs/Activity.antt).
-ghost use Rattle.std.specs.Prelude.{eqb, ◌≡◌};
-ghost use Rattle.chip.specs.Activity.{activity_of, code_to_come, command_number, command_of, ends, goes_on, is_ending, is_interrupt, is_of, is_running, is_select_and_transfer, is_transfer_info, pending_number, reads_out, running_number, sets_atn, without_interrupt};
+ghost use Rattle.std.specs.Prelude.{◌≡◌};
+ghost use Rattle.state.specs.Running.{running_command};
+ghost use Rattle.chip.specs.Activity.{activity_of, code_to_come, command_of, ends, goes_on, is_ending, is_interrupt, is_running, is_select_and_transfer, is_transfer_info, pending_number, reads_out, running_number, sets_atn, without_interrupt};
 
-use crate::get;
 use chip::{Activity, Command, State};
 
 // How many numbers of commands there are, with 0 for none.
 pub const COMMANDS: u8 = 6;
 
-fn command_number(r: Command) -> u8
-    ensures { result ≡ command_number r }
-{
-    match r {
-        Command::SelectWithAtn => 1,
-        Command::SelectWithoutAtn => 2,
-        Command::SelectAndTransferWithAtn => 3,
-        Command::SelectAndTransferWithoutAtn => 4,
-        Command::TransferInfo => 5,
-    }
-}
-
+// The command of a number from 1 up. A TryFrom would refuse the others, of which this function says a command, as its definition does.
 #[tactic(auto, unfolding(chip::specs::Activity::command_of, chip::specs::Choice::pick))]
 fn command_of(n: u8) -> Command
     ensures { result ≡ command_of n }
 {
-    if n < 3 {
-        if n < 2 {
-            return Command::SelectWithAtn;
-        }
-        return Command::SelectWithoutAtn;
+    match n {
+        0 | 1 => Command::SelectWithAtn,
+        2 => Command::SelectWithoutAtn,
+        3 => Command::SelectAndTransferWithAtn,
+        4 => Command::SelectAndTransferWithoutAtn,
+        _ => Command::TransferInfo,
     }
-    if n < 5 {
-        if n < 4 {
-            return Command::SelectAndTransferWithAtn;
-        }
-        return Command::SelectAndTransferWithoutAtn;
+}
+
+// The command that runs.
+fn running(a: Activity) -> Option<Command>
+    ensures { result ≡ running_command a }
+{
+    match a {
+        Activity::Idle | Activity::Interrupt => None,
+        Activity::Runs(r) | Activity::Ends(r, _) | Activity::ReadOut(r) => Some(r),
     }
-    Command::TransferInfo
 }
 
 pub fn running_number(a: Activity) -> u8
     ensures { result ≡ running_number a }
 {
-    match a {
-        Activity::Idle => 0,
-        Activity::Interrupt => 0,
-        Activity::Runs(r) => command_number(r),
-        Activity::Ends(r, _) => command_number(r),
-        Activity::ReadOut(r) => command_number(r),
+    match running(a) {
+        None => 0,
+        Some(r) => r as u8,
     }
 }
 
@@ -55,9 +45,8 @@ pub fn pending_number(a: Activity) -> u8
     ensures { result ≡ pending_number a }
 {
     match a {
-        Activity::Idle => 0,
+        Activity::Idle | Activity::Runs(_) => 0,
         Activity::Interrupt => 1,
-        Activity::Runs(_) => 0,
         Activity::Ends(_, _) => 2,
         Activity::ReadOut(_) => 3,
     }
@@ -67,11 +56,8 @@ pub fn code_to_come(a: Activity) -> u8
     ensures { result ≡ code_to_come a }
 {
     match a {
-        Activity::Idle => 0,
-        Activity::Interrupt => 0,
-        Activity::Runs(_) => 0,
         Activity::Ends(_, k) => k,
-        Activity::ReadOut(_) => 0,
+        _ => 0,
     }
 }
 
@@ -80,109 +66,70 @@ pub fn code_to_come(a: Activity) -> u8
 pub fn activity_of(p: u8, k: u8, n: u8) -> Activity
     ensures { result ≡ activity_of p k n }
 {
-    if n == 0 {
-        if p == 0 {
-            return Activity::Idle;
-        }
-        return Activity::Interrupt;
+    match (n, p) {
+        (0, 0) => Activity::Idle,
+        (0, _) => Activity::Interrupt,
+        (_, 0) => Activity::Runs(command_of(n)),
+        (_, 2) => Activity::Ends(command_of(n), k),
+        _ => Activity::ReadOut(command_of(n)),
     }
-    let r = command_of(n);
-    if p == 0 {
-        return Activity::Runs(r);
-    }
-    if p == 2 {
-        return Activity::Ends(r, k);
-    }
-    Activity::ReadOut(r)
-}
-
-// What is pending has the number p.
-fn is_pending(p: u8, s: State) -> bool
-    ensures { result ≡ eqb (pending_number s.activity) p }
-{
-    pending_number(get::activity(s)) == p
 }
 
 pub fn is_interrupt(s: State) -> bool
     ensures { result ≡ is_interrupt s.activity }
 {
-    is_pending(1, s)
+    matches!(s.activity, Activity::Interrupt)
 }
 
 pub fn is_ending(s: State) -> bool
     ensures { result ≡ is_ending s.activity }
 {
-    if is_pending(2, s) {
-        return true;
-    }
-    is_pending(3, s)
+    matches!(s.activity, Activity::Ends(_, _) | Activity::ReadOut(_))
 }
 
 pub fn is_running(s: State) -> bool
     ensures { result ≡ is_running s.activity }
 {
-    running_number(get::activity(s)) != 0
-}
-
-fn is_runs(a: Activity) -> bool
-    ensures { result ≡ goes_on a }
-{
-    match a {
-        Activity::Idle => false,
-        Activity::Interrupt => false,
-        Activity::Runs(_) => true,
-        Activity::Ends(_, _) => false,
-        Activity::ReadOut(_) => false,
-    }
+    running(s.activity).is_some()
 }
 
 // A command runs, with no ending under way.
 pub fn goes_on(s: State) -> bool
     ensures { result ≡ goes_on s.activity }
 {
-    is_runs(get::activity(s))
-}
-
-// The command that runs is r.
-fn is_of(r: Command, s: State) -> bool
-    ensures { result ≡ is_of r s.activity }
-{
-    running_number(get::activity(s)) == command_number(r)
+    matches!(s.activity, Activity::Runs(_))
 }
 
 pub fn is_select_and_transfer(s: State) -> bool
     ensures { result ≡ is_select_and_transfer s.activity }
 {
-    if is_of(Command::SelectAndTransferWithAtn, s) {
-        return true;
-    }
-    is_of(Command::SelectAndTransferWithoutAtn, s)
+    matches!(
+        running(s.activity),
+        Some(Command::SelectAndTransferWithAtn | Command::SelectAndTransferWithoutAtn)
+    )
 }
 
 pub fn is_transfer_info(s: State) -> bool
     ensures { result ≡ is_transfer_info s.activity }
 {
-    is_of(Command::TransferInfo, s)
+    running(s.activity) == Some(Command::TransferInfo)
 }
 
 pub fn sets_atn(s: State) -> bool
     ensures { result ≡ sets_atn s.activity }
 {
-    if is_of(Command::SelectWithAtn, s) {
-        return true;
-    }
-    is_of(Command::SelectAndTransferWithAtn, s)
+    matches!(
+        running(s.activity),
+        Some(Command::SelectWithAtn | Command::SelectAndTransferWithAtn)
+    )
 }
 
 pub fn ends(k: u8, a: Activity) -> Activity
     ensures { result ≡ ends k a }
 {
     match a {
-        Activity::Idle => Activity::Idle,
-        Activity::Interrupt => Activity::Interrupt,
         Activity::Runs(r) => Activity::Ends(r, k),
-        Activity::Ends(r, j) => Activity::Ends(r, j),
-        Activity::ReadOut(r) => Activity::ReadOut(r),
+        _ => a,
     }
 }
 
@@ -190,11 +137,8 @@ pub fn reads_out(a: Activity) -> Activity
     ensures { result ≡ reads_out a }
 {
     match a {
-        Activity::Idle => Activity::Idle,
-        Activity::Interrupt => Activity::Interrupt,
         Activity::Runs(r) => Activity::ReadOut(r),
-        Activity::Ends(r, j) => Activity::Ends(r, j),
-        Activity::ReadOut(r) => Activity::ReadOut(r),
+        _ => a,
     }
 }
 
@@ -202,10 +146,7 @@ pub fn without_interrupt(a: Activity) -> Activity
     ensures { result ≡ without_interrupt a }
 {
     match a {
-        Activity::Idle => Activity::Idle,
         Activity::Interrupt => Activity::Idle,
-        Activity::Runs(r) => Activity::Runs(r),
-        Activity::Ends(r, k) => Activity::Ends(r, k),
-        Activity::ReadOut(r) => Activity::ReadOut(r),
+        _ => a,
     }
 }

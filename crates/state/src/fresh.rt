@@ -3,8 +3,8 @@ ghost use Rattle.std.specs.Prelude.{◌≡◌};
 ghost use Rattle.chip.specs.State.{apart, cleared, fresh, nothing_moves};
 
 use chip::{
-    Activity, Connection, Descriptor, Direction, Handshake, Identity, Noted, Registers, Seen,
-    Setup, State, Status, Transfer, Wire,
+    Activity, Connection, Descriptor, Direction, Handshake, Identity, Registers, Seen, Setup,
+    State, Status, Transfer, Wire,
 };
 
 // Registers 01 to 16h zero.
@@ -49,8 +49,8 @@ pub fn apart(identity: Identity) -> Wire
             ack: false,
         },
         seen: Seen {
-            reported: Noted::NoPhase,
-            last: Noted::NoPhase,
+            reported: None,
+            last: None,
         },
         identity,
         elapsed: 0,

@@ -1,12 +1,8 @@
 // A state with one field changed: set::phase(s, x) is the definition set_phase x s.
 ghost use Rattle.std.specs.Prelude.{◌≡◌};
-ghost use Rattle.chip.specs.State.{with_cdb, set_registers, set_cdb, set_control, set_lun, set_phase, set_count, set_source, set_pointer, set_code, set_command, set_lci, set_pe, set_activity, set_direction, set_single, set_connection, set_atn, set_ack, set_seen, set_reported, set_last, set_elapsed, set_fifo};
+ghost use Rattle.chip.specs.State.{set_registers, set_cdb, set_control, set_lun, set_phase, set_count, set_source, set_pointer, set_code, set_command, set_lci, set_pe, set_activity, set_direction, set_single, set_connection, set_atn, set_ack, set_seen, set_reported, set_last, set_elapsed, set_fifo};
 
-use crate::get;
-use chip::{
-    Activity, Connection, Descriptor, Direction, Fifo, Noted, Registers, Seen, State, Transfer,
-    Wire,
-};
+use chip::{Activity, Connection, Direction, Fifo, Phase, Registers, Seen, State};
 
 pub fn registers(s: State, x: Registers) -> State
     ensures { result ≡ set_registers x s }
@@ -17,30 +13,12 @@ pub fn registers(s: State, x: Registers) -> State
 }
 
 // Registers 03 to 0Eh.
-pub fn with_cdb(x: [u8; 12], r: Registers) -> Registers
-    ensures { result ≡ with_cdb x r }
-{
-    let setup = r.setup;
-    let d = r.descriptor;
-    let descriptor = Descriptor {
-        cdb: x,
-        lun: d.lun,
-        phase: d.phase,
-    };
-    Registers {
-        setup,
-        descriptor,
-        count: r.count,
-        destination: r.destination,
-        source: r.source,
-    }
-}
-
 pub fn cdb(s: State, x: [u8; 12]) -> State
     ensures { result ≡ set_cdb x s }
 {
-    let part = s.registers;
-    registers(s, with_cdb(x, part))
+    let mut t = s;
+    t.registers.descriptor.cdb = x;
+    t
 }
 
 pub fn control(s: State, x: u8) -> State
@@ -126,31 +104,16 @@ pub fn pe(s: State, x: bool) -> State
 pub fn activity(s: State, x: Activity) -> State
     ensures { result ≡ set_activity x s }
 {
-    let registers = s.registers;
-    let status = s.status;
-    let fifo = s.fifo;
-    let transfer = s.transfer;
-    let wire = s.wire;
-    State {
-        registers,
-        status,
-        fifo,
-        transfer,
-        wire,
-        activity: x,
-    }
+    let mut t = s;
+    t.activity = x;
+    t
 }
 
 pub fn direction(s: State, x: Direction) -> State
     ensures { result ≡ set_direction x s }
 {
-    let p = s.transfer;
-    let transfer = Transfer {
-        direction: x,
-        single: p.single,
-    };
     let mut t = s;
-    t.transfer = transfer;
+    t.transfer.direction = x;
     t
 }
 
@@ -165,19 +128,8 @@ pub fn single(s: State, x: bool) -> State
 pub fn connection(s: State, x: Connection) -> State
     ensures { result ≡ set_connection x s }
 {
-    let p = s.wire;
-    let handshake = p.handshake;
-    let seen = p.seen;
-    let identity = p.identity;
-    let wire = Wire {
-        connection: x,
-        handshake,
-        seen,
-        identity,
-        elapsed: p.elapsed,
-    };
     let mut t = s;
-    t.wire = wire;
+    t.wire.connection = x;
     t
 }
 
@@ -200,34 +152,25 @@ pub fn ack(s: State, x: bool) -> State
 pub fn seen(s: State, x: Seen) -> State
     ensures { result ≡ set_seen x s }
 {
-    let p = s.wire;
-    let connection = p.connection;
-    let handshake = p.handshake;
-    let identity = p.identity;
-    let wire = Wire {
-        connection,
-        handshake,
-        seen: x,
-        identity,
-        elapsed: p.elapsed,
-    };
     let mut t = s;
-    t.wire = wire;
+    t.wire.seen = x;
     t
 }
 
-pub fn reported(s: State, x: Noted) -> State
+pub fn reported(s: State, x: Option<Phase>) -> State
     ensures { result ≡ set_reported x s }
 {
-    let last = get::last(s);
-    seen(s, Seen { reported: x, last })
+    let mut t = s;
+    t.wire.seen.reported = x;
+    t
 }
 
-pub fn last(s: State, x: Noted) -> State
+pub fn last(s: State, x: Option<Phase>) -> State
     ensures { result ≡ set_last x s }
 {
-    let reported = get::reported(s);
-    seen(s, Seen { reported, last: x })
+    let mut t = s;
+    t.wire.seen.last = x;
+    t
 }
 
 pub fn elapsed(s: State, x: u8) -> State

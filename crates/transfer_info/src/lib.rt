@@ -22,7 +22,7 @@ ghost use Rattle.chip.specs.TransferInfo.{
   taken_in,
 };
 
-use chip::{Noted, Phase, Reply, State};
+use chip::{Phase, Reply, State};
 use state::{get, set};
 
 // A byte whose parity halts the transfer.
@@ -40,7 +40,7 @@ pub fn halts(bad: bool, s: State) -> bool
 pub fn halted(s: State) -> Reply
     ensures { result ≡ halted s }
 {
-    let t = set::reported(set::ack(set::pe(s, true), true), Noted::NoPhase);
+    let t = set::reported(set::ack(set::pe(s, true), true), None);
     answers::reports(interrupts::ending_with(0x43, t))
 }
 
@@ -117,7 +117,7 @@ fn taken(p: Phase, b: u8, bad: bool, s: State) -> Reply
 {
     let t = taken_in(b, bad, s);
     if is_last_message_in(p, s) {
-        let u = set::reported(set::ack(t, true), Noted::NoPhase);
+        let u = set::reported(set::ack(t, true), None);
         return answers::done(b, interrupts::ending_with(0x20, u));
     }
     answers::done(b, t)
@@ -151,7 +151,7 @@ fn over_code(p: Phase, s: State) -> u8
 fn over(p: Phase, s: State) -> Reply
     ensures { result ≡ transfer_info_over p s }
 {
-    answers::reports(interrupts::ending_with(over_code(p, s), set::reported(s, Noted::Was(p))))
+    answers::reports(interrupts::ending_with(over_code(p, s), set::reported(s, Some(p))))
 }
 
 // p is the reported phase.

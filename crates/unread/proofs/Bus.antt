@@ -3,6 +3,7 @@
 --   info_wants info_spent   what a running Transfer Info wants, and when it is spent
 --   by_stage                what a running Select-And-Transfer wants
 --   remembered_keeps        to keep the last phase in mind changes nothing else
+use Rattle.std.specs.Prelude.{Option}
 use mathlib.Core.Path.{◌≡◌, refl, ap}
 use mathlib.Core.Bool.{true, false, not}
 use Prim.Native.Nat.{ℕ}
@@ -31,7 +32,6 @@ use Rattle.chip.specs.declared.Stage.{Stage}
 use Rattle.chip.specs.declared.Stage.TheVariants.{SendIdentify, SendCommand, Body, AfterData, Disconnecting, Reselected, AfterStatus, Elsewhere}
 use Rattle.chip.specs.declared.Direction.{Direction}
 use Rattle.chip.specs.declared.Direction.TheVariants.{Unfixed, In, Out}
-use Rattle.chip.specs.declared.Noted.{Noted}
 use Rattle.chip.specs.declared.Phase.{Phase}
 use Rattle.chip.specs.declared.Phase.TheVariants.{DataOut, DataIn, CommandOut, StatusIn, UnspecifiedOut, UnspecifiedIn, MessageOut, MessageIn}
 use Rattle.unread.specs.Because as B
@@ -100,7 +100,7 @@ is_message_in_lem MessageOut e = clash e refl
 is_message_in_lem MessageIn e = refl
 
 -- to keep the phase of the last Request in mind changes nothing else
-pub remembered_keeps : {A : Type 0} (g : State → A) → ((x : Noted) (t : State) → g (set_last x t) ≡ g t) → (p : Phase) (r : Reply)
+pub remembered_keeps : {A : Type 0} (g : State → A) → ((x : Option Phase) (t : State) → g (set_last x t) ≡ g t) → (p : Phase) (r : Reply)
     → g (E.remembered p r).state ≡ g r.state
 unfolding E.remembered
 remembered_keeps g k p r = by_answer r.answer

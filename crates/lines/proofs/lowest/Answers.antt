@@ -8,4 +8,4 @@ use Rattle.lines.proofs.lowest.Goals as goal
 
 pub returns : goal.returns
 unfolding lowest is_on pick count_trailing_zeros
-returns c = computed (below 256 ∷ []) (λ b. bit_and (count_trailing_zeros 32 b) 7) lowest tt c.args.lines (search rules)
+returns c = computed (below 256 ∷ []) (λ b. bit_and (count_trailing_zeros 8 b) 7) lowest tt c.args.lines (search rules)
