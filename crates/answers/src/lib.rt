@@ -3,7 +3,7 @@
 
 ghost use Rattle.std.specs.Prelude.{◌≡◌};
 ghost use Rattle.chip.specs.Entries.{result_of};
-ghost use Rattle.chip.specs.Answers.{number, value, says, done, reports, held, out_of_place, reselection_ignored, no_data_now, ignored};
+ghost use Rattle.chip.specs.Answers.{number, value, says, ignored};
 
 use chip::{Answer, Reply, State};
 use state::set;
@@ -29,14 +29,8 @@ pub fn value(a: Answer) -> u8
 {
     match a {
         Answer::Done(v) => v,
-        Answer::Held => 0,
-        Answer::OutOfPlace => 0,
-        Answer::BadNumber => 0,
-        Answer::Blind => 0xff,
-        Answer::CommandIgnored => 0,
-        Answer::ReselectionIgnored => 0,
-        Answer::NoDataNow => 0xff,
-        Answer::Reported => 0,
+        Answer::Blind | Answer::NoDataNow => 0xff,
+        _ => 0,
     }
 }
 
@@ -47,72 +41,16 @@ pub fn result(a: Answer) -> u32
     (number(a) as u32) + 256 * (value(a) as u32)
 }
 
+// The reply of each answer, with the state that it leaves.
 pub fn says(answer: Answer, state: State) -> Reply
     ensures { result ≡ says answer state }
 {
     Reply { answer, state }
 }
 
-pub fn done(v: u8, s: State) -> Reply
-    ensures { result ≡ done v s }
-{
-    Reply {
-        answer: Answer::Done(v),
-        state: s,
-    }
-}
-
-pub fn reports(s: State) -> Reply
-    ensures { result ≡ reports s }
-{
-    Reply {
-        answer: Answer::Reported,
-        state: s,
-    }
-}
-
-pub fn held(s: State) -> Reply
-    ensures { result ≡ held s }
-{
-    Reply {
-        answer: Answer::Held,
-        state: s,
-    }
-}
-
-pub fn out_of_place(s: State) -> Reply
-    ensures { result ≡ out_of_place s }
-{
-    Reply {
-        answer: Answer::OutOfPlace,
-        state: s,
-    }
-}
-
-pub fn reselection_ignored(s: State) -> Reply
-    ensures { result ≡ reselection_ignored s }
-{
-    Reply {
-        answer: Answer::ReselectionIgnored,
-        state: s,
-    }
-}
-
-pub fn no_data_now(s: State) -> Reply
-    ensures { result ≡ no_data_now s }
-{
-    Reply {
-        answer: Answer::NoDataNow,
-        state: s,
-    }
-}
-
+// Command ignored, with LCI set.
 pub fn ignored(s: State) -> Reply
     ensures { result ≡ ignored s }
 {
-    let t = set::lci(s, true);
-    Reply {
-        answer: Answer::CommandIgnored,
-        state: t,
-    }
+    says(Answer::CommandIgnored, set::lci(s, true))
 }

@@ -1,22 +1,20 @@
 // The count: what is left, lowered and loaded, and DBR. Each function is the definition of the same name in chip's specs/Count.antt.
 #![tactic(auto)]
 
-ghost use Rattle.std.specs.Prelude.{◌≡◌, ◌-◌, ltb};
-ghost use Rattle.chip.specs.Choice.{pick};
-ghost use Rattle.chip.specs.Fifo.{waits};
-ghost use Rattle.chip.specs.Count.{dbr, dbr_by, left, none_left, is_last, lowered, loaded, means_one, loaded_for_transfer_info};
+ghost use Rattle.std.specs.Prelude.{◌≡◌};
+ghost use Rattle.chip.specs.Count.{dbr, left, none_left, is_last, lowered, loaded, means_one, loaded_for_transfer_info};
 
 use chip::{Direction, State};
-use state::{get, set};
 
 #[tactic(auto, unfolding(chip::specs::Count::left, chip::specs::Choice::pick))]
 pub fn left(s: State) -> u32
     ensures { result ≡ left s }
 {
     if s.transfer.single {
-        return 1;
+        1
+    } else {
+        s.registers.count
     }
-    s.registers.count
 }
 
 #[tactic(auto, unfolding(chip::specs::Count::none_left))]
@@ -33,102 +31,56 @@ pub fn is_last(s: State) -> bool
     left(s) == 1
 }
 
-// Fewer bytes were written than loaded.
-fn is_unwritten(s: State) -> bool
-    ensures { result ≡ ltb (waits s.fifo) (left s) }
-{
-    let q = s.fifo;
-    (fifo::waits(q) as u32) < left(s)
-}
-
-#[tactic(auto, unfolding(chip::specs::Choice::both))]
-fn opens_out(s: State) -> bool
-    ensures { result ≡ dbr_by Direction.Out s }
-{
-    if is_unwritten(s) {
-        let q = s.fifo;
-        return fifo::has_room(q);
-    }
-    false
-}
-
-fn dbr_by(d: Direction, s: State) -> bool
-    ensures { result ≡ dbr_by d s }
-{
-    match d {
-        Direction::Unfixed => false,
-        Direction::In => {
-            let q = s.fifo;
-            fifo::has_byte(q)
-        }
-        Direction::Out => opens_out(s),
-    }
-}
-
-#[tactic(auto, unfolding(chip::specs::Count::dbr))]
+// Outgoing, fewer bytes were written than loaded, and there is room.
+#[tactic(auto, unfolding(chip::specs::Count::dbr, chip::specs::Choice::both))]
 pub fn dbr(s: State) -> bool
     ensures { result ≡ dbr s }
 {
-    let direction = get::direction(s);
-    dbr_by(direction, s)
-}
-
-fn less(n: u32) -> u32
-    ensures { result ≡ n - 1 }
-{
-    if n == 0 {
-        return 0;
+    match s.transfer.direction {
+        Direction::Unfixed => false,
+        Direction::In => !fifo::is_empty(s.fifo),
+        Direction::Out => (fifo::waits(s.fifo) as u32) < left(s) && fifo::has_room(s.fifo),
     }
-    n - 1
 }
 
-#[tactic(auto, unfolding(chip::specs::Choice::pick))]
-fn count_after(single: bool, n: u32) -> u32
-    ensures { result ≡ pick single 0 (n - 1) }
-{
-    if single {
-        return 0;
-    }
-    less(n)
-}
-
-#[tactic(auto, unfolding(chip::specs::Count::lowered))]
-pub fn lowered(s: State) -> State
+#[tactic(auto, unfolding(chip::specs::Count::lowered, chip::specs::Choice::pick))]
+pub fn lowered(mut s: State) -> State
     ensures { result ≡ lowered s }
 {
-    set::single(
-        set::count(s, count_after(s.transfer.single, s.registers.count)),
-        false,
-    )
+    s.registers.count = if s.transfer.single {
+        0
+    } else {
+        s.registers.count.saturating_sub(1)
+    };
+    s.transfer.single = false;
+    s
 }
 
 #[tactic(auto, unfolding(chip::specs::Count::loaded))]
-pub fn loaded(s: State) -> State
+pub fn loaded(mut s: State) -> State
     ensures { result ≡ loaded s }
 {
-    set::single(
-        set::direction(set::fifo(s, fifo::empty()), Direction::Unfixed),
-        false,
-    )
+    s.fifo = fifo::empty();
+    s.transfer.direction = Direction::Unfixed;
+    s.transfer.single = false;
+    s
 }
 
 #[tactic(auto, unfolding(chip::specs::Count::means_one, chip::specs::Choice::either))]
 pub fn means_one(single: bool, s: State) -> bool
     ensures { result ≡ means_one single s }
 {
-    if single {
-        return true;
-    }
-    s.registers.count == 0
+    single || s.registers.count == 0
 }
 
 #[tactic(auto, unfolding(chip::specs::Count::loaded_for_transfer_info, chip::specs::Choice::pick))]
-pub fn loaded_for_transfer_info(single: bool, s: State) -> State
+pub fn loaded_for_transfer_info(single: bool, mut s: State) -> State
     ensures { result ≡ loaded_for_transfer_info single s }
 {
-    let t = set::fifo(s, fifo::empty());
-    if means_one(single, s) {
-        return set::single(set::count(t, 0), true);
+    s.transfer.single = means_one(single, s);
+    if s.transfer.single {
+        s.registers.count = 0;
     }
-    set::single(t, false)
+    s.fifo = fifo::empty();
+    s
 }
