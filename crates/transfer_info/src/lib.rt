@@ -2,11 +2,9 @@
 // room's own name stands for that: `request` is transfer_info_request.
 #![tactic(auto)]
 
-ghost use Rattle.std.specs.Prelude.{not, ◌≡◌};
-ghost use Rattle.chip.specs.Choice.{both, either};
-ghost use Rattle.chip.specs.Count.{is_last, none_left};
+ghost use Rattle.std.specs.Prelude.{◌≡◌};
+ghost use Rattle.chip.specs.Choice.{both};
 ghost use Rattle.chip.specs.Lines.{hsp};
-ghost use Rattle.chip.specs.Phases.{is_message_in, is_message_out, is_noted};
 ghost use Rattle.chip.specs.TransferInfo.{
   atn_after,
   halted,
@@ -22,119 +20,91 @@ ghost use Rattle.chip.specs.TransferInfo.{
   taken_in,
 };
 
-use chip::{Phase, Reply, State};
-use state::{get, set};
+use answers::says;
+use chip::{Answer, Phase, Reply, Request, State};
 
 // A byte whose parity halts the transfer.
 #[tactic(auto, unfolding(chip::specs::Choice::both, chip::specs::Lines::hsp))]
-pub fn halts(bad: bool, s: State) -> bool
-    ensures { result ≡ both bad (hsp s) }
+pub fn halts(request: Request, s: State) -> bool
+    ensures { result ≡ both request.bad (hsp s) }
 {
-    if bad {
-        return lines::hsp(s);
-    }
-    false
+    request.bad && lines::hsp(s)
 }
 
 #[tactic(auto, unfolding(chip::specs::TransferInfo::halted, chip::specs::Interrupts::unless_interrupt, chip::specs::Choice::pick))]
-pub fn halted(s: State) -> Reply
+pub fn halted(mut s: State) -> Reply
     ensures { result ≡ halted s }
 {
-    let t = set::reported(set::ack(set::pe(s, true), true), None);
-    answers::reports(interrupts::ending_with(0x43, t))
+    s.status.pe = true;
+    s.wire.handshake.ack = true;
+    s.wire.seen.reported = None;
+    says(Answer::Reported, interrupts::ending_with(0x43, s))
 }
 
-#[tactic(auto, unfolding(chip::specs::Choice::either))]
-fn pe_after(pe: bool, bad: bool) -> bool
-    ensures { result ≡ either pe bad }
+#[tactic(auto, unfolding(chip::specs::TransferInfo::parity_noted, chip::specs::Choice::either))]
+pub fn parity_noted(request: Request, mut s: State) -> State
+    ensures { result ≡ parity_noted request.bad s }
 {
-    if pe {
-        return true;
-    }
-    bad
+    s.status.pe = s.status.pe || request.bad;
+    s
 }
 
-#[tactic(auto, unfolding(chip::specs::TransferInfo::parity_noted))]
-pub fn parity_noted(bad: bool, s: State) -> State
-    ensures { result ≡ parity_noted bad s }
-{
-    set::pe(s, pe_after(s.status.pe, bad))
-}
-
-#[tactic(auto, unfolding(chip::specs::Choice::both, chip::specs::Count::is_last))]
-fn is_last_message_out(p: Phase, s: State) -> bool
-    ensures { result ≡ both (is_message_out p) (is_last s) }
-{
-    if phases::is_message_out(p) {
-        return count::is_last(s);
-    }
-    false
-}
-
-#[tactic(auto, unfolding(chip::specs::Choice::both, chip::specs::Count::is_last))]
-fn is_last_message_in(p: Phase, s: State) -> bool
-    ensures { result ≡ both (is_message_in p) (is_last s) }
-{
-    if phases::is_message_in(p) {
-        return count::is_last(s);
-    }
-    false
-}
-
-#[tactic(auto, unfolding(chip::specs::TransferInfo::atn_after, chip::specs::Choice::pick))]
+// The last byte of a Message Out lets ATN go.
+#[tactic(auto, unfolding(chip::specs::TransferInfo::atn_after, chip::specs::Choice::pick, chip::specs::Choice::both))]
 fn atn_after(p: Phase, s: State) -> bool
     ensures { result ≡ atn_after p s }
 {
-    if is_last_message_out(p, s) {
-        return false;
-    }
-    s.wire.handshake.atn
+    s.wire.handshake.atn && !(p == Phase::MessageOut && count::is_last(s))
 }
 
 #[tactic(auto, unfolding(chip::specs::TransferInfo::transfer_info_sent, chip::specs::Choice::pick))]
 fn sent(p: Phase, s: State) -> Reply
     ensures { result ≡ transfer_info_sent p s }
 {
-    let q = s.fifo;
-    if fifo::is_empty(q) {
-        return answers::held(s);
+    if fifo::is_empty(s.fifo) {
+        return says(Answer::Held, s);
     }
-    let t = count::lowered(set::fifo(s, fifo::pop(q)));
-    answers::done(fifo::front(q), set::atn(t, atn_after(p, s)))
+    let mut t = s;
+    t.fifo = fifo::pop(s.fifo);
+    t = count::lowered(t);
+    t.wire.handshake.atn = atn_after(p, s);
+    says(Answer::Done(fifo::front(s.fifo)), t)
 }
 
 #[tactic(auto, unfolding(chip::specs::TransferInfo::taken_in))]
-pub fn taken_in(b: u8, bad: bool, s: State) -> State
-    ensures { result ≡ taken_in b bad s }
+pub fn taken_in(request: Request, s: State) -> State
+    ensures { result ≡ taken_in request.byte request.bad s }
 {
-    let q = s.fifo;
-    count::lowered(set::fifo(parity_noted(bad, s), fifo::push(b, q)))
+    let mut t = parity_noted(request, s);
+    t.fifo = fifo::push(request.byte, s.fifo);
+    count::lowered(t)
 }
 
-#[tactic(auto, unfolding(chip::specs::TransferInfo::transfer_info_taken, chip::specs::Choice::pick, chip::specs::Interrupts::unless_interrupt))]
-fn taken(p: Phase, b: u8, bad: bool, s: State) -> Reply
-    ensures { result ≡ transfer_info_taken p b bad s }
+// The last byte of a Message In holds ACK, and an ending begins.
+#[tactic(auto, unfolding(chip::specs::TransferInfo::transfer_info_taken, chip::specs::Choice::pick, chip::specs::Choice::both, chip::specs::Interrupts::unless_interrupt))]
+fn taken(request: Request, s: State) -> Reply
+    ensures { result ≡ transfer_info_taken request.phase request.byte request.bad s }
 {
-    let t = taken_in(b, bad, s);
-    if is_last_message_in(p, s) {
-        let u = set::reported(set::ack(t, true), None);
-        return answers::done(b, interrupts::ending_with(0x20, u));
+    let mut t = taken_in(request, s);
+    if request.phase == Phase::MessageIn && count::is_last(s) {
+        t.wire.handshake.ack = true;
+        t.wire.seen.reported = None;
+        t = interrupts::ending_with(0x20, t);
     }
-    answers::done(b, t)
+    says(Answer::Done(request.byte), t)
 }
 
 #[tactic(auto, unfolding(chip::specs::TransferInfo::transfer_info_offered, chip::specs::Choice::pick, chip::specs::TransferInfo::unless_halted))]
-fn offered(p: Phase, b: u8, bad: bool, s: State) -> Reply
-    ensures { result ≡ transfer_info_offered p b bad s }
+fn offered(request: Request, s: State) -> Reply
+    ensures { result ≡ transfer_info_offered request.phase request.byte request.bad s }
 {
-    let q = s.fifo;
-    if fifo::has_room(q) {
-        if halts(bad, s) {
-            return halted(s);
-        }
-        return taken(p, b, bad, s);
+    if !fifo::has_room(s.fifo) {
+        says(Answer::Held, s)
+    } else if halts(request, s) {
+        halted(s)
+    } else {
+        taken(request, s)
     }
-    answers::held(s)
 }
 
 #[tactic(auto, unfolding(chip::specs::TransferInfo::over_code, chip::specs::Choice::pick))]
@@ -142,66 +112,45 @@ fn over_code(p: Phase, s: State) -> u8
     ensures { result ≡ over_code p s }
 {
     if count::none_left(s) {
-        return phases::coded(0x18, p);
+        phases::coded(0x18, p)
+    } else {
+        phases::coded(0x48, p)
     }
-    phases::coded(0x48, p)
 }
 
 #[tactic(auto, unfolding(chip::specs::TransferInfo::transfer_info_over, chip::specs::Interrupts::unless_interrupt, chip::specs::Choice::pick))]
 fn over(p: Phase, s: State) -> Reply
     ensures { result ≡ transfer_info_over p s }
 {
-    answers::reports(interrupts::ending_with(over_code(p, s), set::reported(s, Some(p))))
+    let mut t = s;
+    t.wire.seen.reported = Some(p);
+    says(
+        Answer::Reported,
+        interrupts::ending_with(over_code(p, s), t),
+    )
 }
 
-// p is the reported phase.
-pub fn is_reported(p: Phase, s: State) -> bool
-    ensures { result ≡ is_noted p s.wire.seen.reported }
+// A byte crosses in the phase under transfer, as long as bytes are left.
+#[tactic(auto, unfolding(chip::specs::TransferInfo::transfer_info_request, chip::specs::Choice::pick, chip::specs::Choice::both))]
+pub fn request(request: Request, s: State) -> Reply
+    ensures { result ≡ transfer_info_request request.phase request.byte request.bad s }
 {
-    phases::is_noted(p, get::reported(s))
-}
-
-// A Request of the phase under transfer with bytes left.
-#[tactic(auto, unfolding(chip::specs::Choice::both, chip::specs::Count::none_left))]
-fn moves(p: Phase, s: State) -> bool
-    ensures { result ≡ both (is_noted p s.wire.seen.reported) (not (none_left s)) }
-{
-    if is_reported(p, s) {
-        if count::none_left(s) {
-            return false;
-        }
-        return true;
+    let p = request.phase;
+    let moves = s.wire.seen.reported == Some(p) && !count::none_left(s);
+    if !moves {
+        over(p, s)
+    } else if phases::comes_in(p) {
+        offered(request, s)
+    } else {
+        sent(p, s)
     }
-    false
-}
-
-#[tactic(auto, unfolding(chip::specs::TransferInfo::transfer_info_request, chip::specs::Choice::pick))]
-pub fn request(p: Phase, b: u8, bad: bool, s: State) -> Reply
-    ensures { result ≡ transfer_info_request p b bad s }
-{
-    if moves(p, s) {
-        if phases::comes_in(p) {
-            return offered(p, b, bad, s);
-        }
-        return sent(p, s);
-    }
-    over(p, s)
-}
-
-#[tactic(auto, unfolding(chip::specs::TransferInfo::transfer_info_free_code, chip::specs::Choice::pick))]
-fn free_code(s: State) -> u8
-    ensures { result ≡ transfer_info_free_code s }
-{
-    if count::none_left(s) {
-        return 0x85;
-    }
-    0x41
 }
 
 // What a Free does to it. t is s with the bus free.
-#[tactic(auto, unfolding(chip::specs::TransferInfo::transfer_info_free, chip::specs::Interrupts::unless_interrupt, chip::specs::Choice::pick))]
+#[tactic(auto, unfolding(chip::specs::TransferInfo::transfer_info_free, chip::specs::TransferInfo::transfer_info_free_code, chip::specs::Interrupts::unless_interrupt, chip::specs::Choice::pick))]
 pub fn free(s: State, t: State) -> Reply
     ensures { result ≡ transfer_info_free s t }
 {
-    answers::done(0, interrupts::ending_with(free_code(s), t))
+    let code = if count::none_left(s) { 0x85 } else { 0x41 };
+    says(Answer::Done(0), interrupts::ending_with(code, t))
 }
