@@ -1,63 +1,55 @@
 // Answer: the Target takes the selection.
 ghost use Rattle.std.specs.Prelude.{◌≡◌};
-ghost use Rattle.chip.specs.Choice.{either};
 ghost use Rattle.chip.specs.Events.{answered, answered_elsewhere, answered_selecting, answered_state, connected};
 
 use crate::time;
-use chip::{Connection, Reply, Seen, State};
-use state::{activity, connections, set};
+use answers::says;
+use chip::{Answer, Connection, Reply, Seen, State};
+use state::activity;
 
 #[tactic(auto, unfolding(chip::specs::Events::connected))]
-pub fn connected(s: State) -> State
+pub fn connected(mut s: State) -> State
     ensures { result ≡ connected s }
 {
-    let nothing = Seen {
+    s.wire.seen = Seen {
         reported: None,
         last: None,
     };
-    set::connection(set::seen(s, nothing), Connection::Connected)
+    s.wire.connection = Connection::Connected;
+    s
 }
 
-#[tactic(auto, unfolding(chip::specs::Choice::either))]
-fn atn_with(sets: bool, atn: bool) -> bool
-    ensures { result ≡ either sets atn }
-{
-    if sets {
-        return true;
-    }
-    atn
-}
-
-#[tactic(auto, unfolding(chip::specs::Events::answered_state, chip::specs::Events::connected))]
-fn answered_state(s: State) -> State
+#[tactic(auto, unfolding(chip::specs::Events::answered_state, chip::specs::Events::connected, chip::specs::Choice::either))]
+fn answered_state(mut s: State) -> State
     ensures { result ≡ answered_state s }
 {
-    let atn = atn_with(activity::sets_atn(s), s.wire.handshake.atn);
-    connected(set::atn(s, atn))
+    s.wire.handshake.atn = activity::sets_atn(s) || s.wire.handshake.atn;
+    connected(s)
 }
 
 #[tactic(auto, unfolding(chip::specs::Events::answered_selecting, chip::specs::Choice::pick, chip::specs::Interrupts::unless_interrupt))]
 fn answered_selecting(s: State) -> Reply
     ensures { result ≡ answered_selecting s }
 {
-    let t = answered_state(s);
+    let mut t = answered_state(s);
     if activity::is_select_and_transfer(s) {
-        return answers::done(0, set::phase(t, 0x10));
+        t.registers.descriptor.phase = 0x10;
+    } else {
+        t = interrupts::raise(0x11, t);
     }
-    answers::done(0, interrupts::raise(0x11, t))
+    says(Answer::Done(0), t)
 }
 
+// No selection runs.
 #[tactic(auto, unfolding(chip::specs::Events::answered_elsewhere, chip::specs::Choice::pick, chip::specs::Choice::both))]
 fn answered_elsewhere(s: State) -> Reply
     ensures { result ≡ answered_elsewhere s }
 {
-    if connections::is_selecting(s) {
-        if interrupts::in_ending(s) {
-            return answers::held(s);
-        }
-        return answers::out_of_place(s);
+    if s.wire.connection == Connection::Selecting && interrupts::in_ending(s) {
+        says(Answer::Held, s)
+    } else {
+        says(Answer::OutOfPlace, s)
     }
-    answers::out_of_place(s)
 }
 
 #[tactic(auto, unfolding(chip::specs::Events::answered, chip::specs::Choice::pick))]
@@ -65,7 +57,8 @@ pub fn answered(s: State) -> Reply
     ensures { result ≡ answered s }
 {
     if time::selects(s) {
-        return answered_selecting(s);
+        answered_selecting(s)
+    } else {
+        answered_elsewhere(s)
     }
-    answered_elsewhere(s)
 }

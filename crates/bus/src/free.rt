@@ -2,17 +2,20 @@
 ghost use Rattle.std.specs.Prelude.{◌≡◌};
 ghost use Rattle.chip.specs.Events.{bus_free, freed, freed_running, idle_free};
 
-use chip::{Connection, Reply, State};
-use state::{activity, connections, set};
+use answers::says;
+use chip::{Answer, Connection, Handshake, Reply, State};
+use state::activity;
 
 #[tactic(auto, unfolding(chip::specs::Events::bus_free))]
-fn bus_free(s: State) -> State
+fn bus_free(mut s: State) -> State
     ensures { result ≡ bus_free s }
 {
-    set::connection(
-        set::atn(set::ack(s, false), false),
-        Connection::Disconnected,
-    )
+    s.wire.handshake = Handshake {
+        atn: false,
+        ack: false,
+    };
+    s.wire.connection = Connection::Disconnected;
+    s
 }
 
 #[tactic(auto, unfolding(chip::specs::Events::idle_free, chip::specs::Interrupts::unless_interrupt, chip::specs::Choice::pick))]
@@ -20,9 +23,10 @@ fn idle_free(s: State) -> Reply
     ensures { result ≡ idle_free s }
 {
     if interrupts::interrupted(s) {
-        return answers::held(s);
+        says(Answer::Held, s)
+    } else {
+        says(Answer::Done(0), interrupts::raise(0x85, bus_free(s)))
     }
-    answers::done(0, interrupts::raise(0x85, bus_free(s)))
 }
 
 #[tactic(auto, unfolding(chip::specs::Events::freed_running, chip::specs::Choice::pick))]
@@ -30,23 +34,23 @@ fn freed_running(s: State) -> Reply
     ensures { result ≡ freed_running s }
 {
     if activity::is_select_and_transfer(s) {
-        return select_and_transfer::free::freed(s, bus_free(s));
+        select_and_transfer::free::freed(s, bus_free(s))
+    } else if activity::is_transfer_info(s) {
+        transfer_info::free(s, bus_free(s))
+    } else {
+        idle_free(s)
     }
-    if activity::is_transfer_info(s) {
-        return transfer_info::free(s, bus_free(s));
-    }
-    idle_free(s)
 }
 
 #[tactic(auto, unfolding(chip::specs::Events::freed, chip::specs::Choice::pick))]
 pub fn freed(s: State) -> Reply
     ensures { result ≡ freed s }
 {
-    if connections::is_connected(s) {
-        if interrupts::in_ending(s) {
-            return answers::held(s);
-        }
-        return freed_running(s);
+    if s.wire.connection != Connection::Connected {
+        says(Answer::OutOfPlace, s)
+    } else if interrupts::in_ending(s) {
+        says(Answer::Held, s)
+    } else {
+        freed_running(s)
     }
-    answers::out_of_place(s)
 }

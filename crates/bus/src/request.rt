@@ -1,50 +1,44 @@
 // Request: a phase, a byte and its parity.
 ghost use Rattle.std.specs.Prelude.{◌≡◌};
-ghost use Rattle.chip.specs.Answers.{out_of_place};
-ghost use Rattle.chip.specs.Choice.{pick};
-ghost use Rattle.chip.specs.Connections.{is_connected};
-ghost use Rattle.chip.specs.Events.{idle_request, is_served, remembered, remembered_by, requested, requested_connected, requested_running};
+ghost use Rattle.chip.specs.Events.{idle_request, is_served, remembered, requested, requested_connected, requested_running};
 
-use chip::{Answer, Phase, Reply, State};
-use state::{activity, connections, set};
+use answers::says;
+use chip::{Answer, Connection, Phase, Reply, Request, State};
+use state::activity;
 
 #[tactic(auto, unfolding(chip::specs::Events::idle_request, chip::specs::Choice::pick, chip::specs::Interrupts::unless_interrupt))]
-fn idle_request(p: Phase, s: State) -> Reply
+fn idle_request(p: Phase, mut s: State) -> Reply
     ensures { result ≡ idle_request p s }
 {
-    if transfer_info::is_reported(p, s) {
-        return answers::held(s);
+    if s.wire.seen.reported == Some(p) || interrupts::interrupted(s) {
+        return says(Answer::Held, s);
     }
-    if interrupts::interrupted(s) {
-        return answers::held(s);
-    }
-    answers::reports(interrupts::raise(phases::coded(0x88, p), set::reported(s, Some(p))))
+    s.wire.seen.reported = Some(p);
+    says(Answer::Reported, interrupts::raise(phases::coded(0x88, p), s))
 }
 
 #[tactic(auto, unfolding(chip::specs::Events::requested_running, chip::specs::Choice::pick))]
-fn requested_running(p: Phase, b: u8, bad: bool, s: State) -> Reply
-    ensures { result ≡ requested_running p b bad s }
+fn requested_running(request: Request, s: State) -> Reply
+    ensures { result ≡ requested_running request.phase request.byte request.bad s }
 {
     if activity::is_select_and_transfer(s) {
-        return select_and_transfer::request(p, b, bad, s);
+        select_and_transfer::request(request, s)
+    } else if activity::is_transfer_info(s) {
+        transfer_info::request(request, s)
+    } else {
+        idle_request(request.phase, s)
     }
-    if activity::is_transfer_info(s) {
-        return transfer_info::request(p, b, bad, s);
-    }
-    idle_request(p, s)
 }
 
 #[tactic(auto, unfolding(chip::specs::Events::requested_connected, chip::specs::Choice::pick))]
-fn requested_connected(p: Phase, b: u8, bad: bool, s: State) -> Reply
-    ensures { result ≡ requested_connected p b bad s }
+fn requested_connected(request: Request, s: State) -> Reply
+    ensures { result ≡ requested_connected request.phase request.byte request.bad s }
 {
-    if interrupts::in_ending(s) {
-        return answers::held(s);
+    if interrupts::in_ending(s) || s.wire.handshake.ack {
+        says(Answer::Held, s)
+    } else {
+        requested_running(request, s)
     }
-    if s.wire.handshake.ack {
-        return answers::held(s);
-    }
-    requested_running(p, b, bad, s)
 }
 
 // A Request comes to the running command.
@@ -52,57 +46,29 @@ fn requested_connected(p: Phase, b: u8, bad: bool, s: State) -> Reply
 pub fn is_served(s: State) -> bool
     ensures { result ≡ is_served s }
 {
-    if connections::is_connected(s) {
-        if activity::goes_on(s) {
-            if s.wire.handshake.ack {
-                return false;
-            }
-            return true;
-        }
-        return false;
+    s.wire.connection == Connection::Connected && activity::goes_on(s) && !s.wire.handshake.ack
+}
+
+// The phase of a Request that is answered Done or Reported is kept in mind, for a later Abort.
+#[tactic(auto, unfolding(chip::specs::Events::remembered))]
+fn remembered(p: Phase, mut r: Reply) -> Reply
+    ensures { result ≡ remembered p r }
+{
+    if matches!(r.answer, Answer::Done(_) | Answer::Reported) {
+        r.state.wire.seen.last = Some(p);
     }
-    false
+    r
 }
 
 // "Connected only."
-#[tactic(auto, unfolding(chip::specs::Choice::pick, chip::specs::Events::requested_connected))]
-fn requested_anywhere(p: Phase, b: u8, bad: bool, s: State) -> Reply
-    ensures { result ≡ pick (is_connected s.wire.connection) (requested_connected p b bad s) (out_of_place s) }
+#[tactic(auto, unfolding(chip::specs::Events::requested, chip::specs::Choice::pick))]
+pub fn requested(request: Request, s: State) -> Reply
+    ensures { result ≡ requested request.phase request.byte request.bad s }
 {
-    if connections::is_connected(s) {
-        return requested_connected(p, b, bad, s);
-    }
-    answers::out_of_place(s)
-}
-
-fn remembered_by(a: Answer, p: Phase, r: Reply) -> Reply
-    ensures { result ≡ remembered_by a p r }
-{
-    let s = r.state;
-    match a {
-        Answer::Done(v) => answers::done(v, set::last(s, Some(p))),
-        Answer::Held => r,
-        Answer::OutOfPlace => r,
-        Answer::BadNumber => r,
-        Answer::Blind => r,
-        Answer::CommandIgnored => r,
-        Answer::ReselectionIgnored => r,
-        Answer::NoDataNow => r,
-        Answer::Reported => answers::reports(set::last(s, Some(p))),
-    }
-}
-
-#[tactic(auto, unfolding(chip::specs::Events::remembered))]
-fn remembered(p: Phase, r: Reply) -> Reply
-    ensures { result ≡ remembered p r }
-{
-    let a = r.answer;
-    remembered_by(a, p, r)
-}
-
-#[tactic(auto, unfolding(chip::specs::Events::requested))]
-pub fn requested(p: Phase, b: u8, bad: bool, s: State) -> Reply
-    ensures { result ≡ requested p b bad s }
-{
-    remembered(p, requested_anywhere(p, b, bad, s))
+    let reply = if s.wire.connection == Connection::Connected {
+        requested_connected(request, s)
+    } else {
+        says(Answer::OutOfPlace, s)
+    };
+    remembered(request.phase, reply)
 }
