@@ -1,124 +1,88 @@
 // The bytes that a Select-And-Transfer takes in beside data, and what it does not take.
-ghost use Rattle.std.specs.Prelude.{false, ◌≡◌, eqb};
-ghost use Rattle.chip.specs.Choice.{both};
-ghost use Rattle.chip.specs.Lines.{identify, lun_of};
-ghost use Rattle.chip.specs.Phases.{is_message_in};
-ghost use Rattle.chip.specs.SelectAndTransfer.{completed, take_complete, take_disconnect, take_identify, take_message, take_save, take_status, unexpected};
+ghost use Rattle.std.specs.Prelude.{◌≡◌};
+ghost use Rattle.chip.specs.Answers.{done};
+ghost use Rattle.chip.specs.TransferInfo.{unless_halted};
+ghost use Rattle.chip.specs.SelectAndTransfer.{take_complete, take_identify, take_message, take_status, unexpected};
 
-use chip::{Phase, Reply, State};
-use state::set;
+use answers::says;
+use chip::{Answer, Phase, Reply, Request, State};
 
 #[tactic(auto, unfolding(chip::specs::SelectAndTransfer::unexpected, chip::specs::Interrupts::unless_interrupt, chip::specs::Choice::pick))]
-pub fn unexpected(p: Phase, s: State) -> Reply
+pub fn unexpected(p: Phase, mut s: State) -> Reply
     ensures { result ≡ unexpected p s }
 {
-    answers::reports(interrupts::ending_with(
-        phases::coded(0x48, p),
-        set::reported(s, Some(p)),
-    ))
-}
-
-#[tactic(auto, unfolding(chip::specs::SelectAndTransfer::take_status, chip::specs::TransferInfo::unless_halted, chip::specs::Choice::pick))]
-pub fn status(b: u8, bad: bool, s: State) -> Reply
-    ensures { result ≡ take_status b bad s }
-{
-    if transfer_info::halts(bad, s) {
-        return transfer_info::halted(s);
-    }
-    let t = interrupts::outgoing_dropped(transfer_info::parity_noted(bad, s));
-    answers::done(b, set::phase(set::lun(t, b), 0x50))
-}
-
-#[tactic(auto, unfolding(chip::specs::SelectAndTransfer::take_save, chip::specs::TransferInfo::unless_halted, chip::specs::Interrupts::unless_interrupt, chip::specs::Choice::pick))]
-fn save(bad: bool, s: State) -> Reply
-    ensures { result ≡ take_save bad s }
-{
-    if transfer_info::halts(bad, s) {
-        return transfer_info::halted(s);
-    }
-    let t = set::ack(set::phase(transfer_info::parity_noted(bad, s), 0x41), true);
-    answers::done(
-        0x02,
-        interrupts::ending_with(0x21, set::reported(t, None)),
+    s.wire.seen.reported = Some(p);
+    says(
+        Answer::Reported,
+        interrupts::ending_with(phases::coded(0x48, p), s),
     )
 }
 
-#[tactic(auto, unfolding(chip::specs::SelectAndTransfer::take_disconnect, chip::specs::TransferInfo::unless_halted, chip::specs::Choice::pick))]
-fn disconnect(bad: bool, s: State) -> Reply
-    ensures { result ≡ take_disconnect bad s }
+// The byte is taken in, and t is the state after it, unless its parity halts the transfer.
+#[tactic(auto, unfolding(chip::specs::TransferInfo::unless_halted, chip::specs::Choice::pick))]
+pub(crate) fn unless_halted(request: Request, s: State, t: State) -> Reply
+    ensures { result ≡ unless_halted request.bad s (done request.byte t) }
 {
-    if transfer_info::halts(bad, s) {
-        return transfer_info::halted(s);
+    if transfer_info::halts(request, s) {
+        transfer_info::halted(s)
+    } else {
+        says(Answer::Done(request.byte), t)
     }
-    answers::done(0x04, set::phase(transfer_info::parity_noted(bad, s), 0x42))
 }
 
-#[tactic(auto, unfolding(chip::specs::SelectAndTransfer::take_message, chip::specs::Choice::pick))]
-pub fn message(b: u8, bad: bool, s: State) -> Reply
-    ensures { result ≡ take_message b bad s }
+#[tactic(auto, unfolding(chip::specs::SelectAndTransfer::take_status, chip::specs::Choice::pick))]
+pub fn status(request: Request, s: State) -> Reply
+    ensures { result ≡ take_status request.byte request.bad s }
 {
-    if b == 0x02 {
-        return save(bad, s);
-    }
-    if b == 0x04 {
-        return disconnect(bad, s);
-    }
-    unexpected(Phase::MessageIn, s)
+    let mut t = interrupts::outgoing_dropped(transfer_info::parity_noted(request, s));
+    t.registers.descriptor.lun = request.byte;
+    t.registers.descriptor.phase = 0x50;
+    unless_halted(request, s, t)
 }
 
-#[tactic(auto, unfolding(chip::specs::Choice::both, chip::specs::Lines::identify, chip::specs::Lines::lun_of))]
-fn is_our_identify(p: Phase, b: u8, s: State) -> bool
-    ensures { result ≡ both (is_message_in p) (eqb b (identify (lun_of s) false)) }
+// Save Data Pointer (02) or Disconnect (04).
+#[tactic(auto, unfolding(chip::specs::SelectAndTransfer::take_message, chip::specs::SelectAndTransfer::take_save, chip::specs::SelectAndTransfer::take_disconnect, chip::specs::Interrupts::unless_interrupt, chip::specs::Choice::pick))]
+pub fn message(request: Request, s: State) -> Reply
+    ensures { result ≡ take_message request.byte request.bad s }
 {
-    if phases::is_message_in(p) {
-        return b == lines::identify(lines::lun_of(s), false);
-    }
-    false
-}
-
-#[tactic(auto, unfolding(chip::specs::SelectAndTransfer::take_identify, chip::specs::Choice::pick, chip::specs::TransferInfo::unless_halted))]
-pub fn identify(p: Phase, b: u8, bad: bool, s: State) -> Reply
-    ensures { result ≡ take_identify p b bad s }
-{
-    if is_our_identify(p, b, s) {
-        if transfer_info::halts(bad, s) {
-            return transfer_info::halted(s);
+    let mut t = transfer_info::parity_noted(request, s);
+    match request.byte {
+        0x02 => {
+            t.registers.descriptor.phase = 0x41;
+            t.wire.handshake.ack = true;
+            t.wire.seen.reported = None;
+            t = interrupts::ending_with(0x21, t);
         }
-        return answers::done(b, set::phase(transfer_info::parity_noted(bad, s), 0x45));
+        0x04 => t.registers.descriptor.phase = 0x42,
+        _ => return unexpected(Phase::MessageIn, s),
     }
-    unexpected(p, s)
+    unless_halted(request, s, t)
 }
 
-#[tactic(auto, unfolding(chip::specs::Choice::both))]
-fn is_complete(p: Phase, b: u8) -> bool
-    ensures { result ≡ both (is_message_in p) (eqb b 0) }
+// Only the Identify of the logical unit that the command is for.
+#[tactic(auto, unfolding(chip::specs::SelectAndTransfer::take_identify, chip::specs::Choice::pick, chip::specs::Choice::both))]
+pub fn identify(request: Request, s: State) -> Reply
+    ensures { result ≡ take_identify request.phase request.byte request.bad s }
 {
-    if phases::is_message_in(p) {
-        return b == 0x00;
+    let ours = lines::identify(lines::lun_of(s), false);
+    if request.phase != Phase::MessageIn || request.byte != ours {
+        return unexpected(request.phase, s);
     }
-    false
+    let mut t = transfer_info::parity_noted(request, s);
+    t.registers.descriptor.phase = 0x45;
+    unless_halted(request, s, t)
 }
 
-#[tactic(auto, unfolding(chip::specs::SelectAndTransfer::completed, chip::specs::TransferInfo::unless_halted, chip::specs::Interrupts::unless_interrupt, chip::specs::Choice::pick))]
-fn completed(bad: bool, s: State) -> Reply
-    ensures { result ≡ completed bad s }
+// Command Complete (00).
+#[tactic(auto, unfolding(chip::specs::SelectAndTransfer::take_complete, chip::specs::SelectAndTransfer::completed, chip::specs::Interrupts::unless_interrupt, chip::specs::Choice::pick, chip::specs::Choice::both))]
+pub fn complete(request: Request, s: State) -> Reply
+    ensures { result ≡ take_complete request.phase request.byte request.bad s }
 {
-    if transfer_info::halts(bad, s) {
-        return transfer_info::halted(s);
+    if request.phase != Phase::MessageIn || request.byte != 0x00 {
+        return unexpected(request.phase, s);
     }
-    let t = set::reported(
-        set::phase(transfer_info::parity_noted(bad, s), 0x60),
-        None,
-    );
-    answers::done(0x00, interrupts::ending_with(0x16, t))
-}
-
-#[tactic(auto, unfolding(chip::specs::SelectAndTransfer::take_complete, chip::specs::Choice::pick))]
-pub fn complete(p: Phase, b: u8, bad: bool, s: State) -> Reply
-    ensures { result ≡ take_complete p b bad s }
-{
-    if is_complete(p, b) {
-        return completed(bad, s);
-    }
-    unexpected(p, s)
+    let mut t = transfer_info::parity_noted(request, s);
+    t.registers.descriptor.phase = 0x60;
+    t.wire.seen.reported = None;
+    unless_halted(request, s, interrupts::ending_with(0x16, t))
 }
