@@ -1,5 +1,6 @@
 // What the phase register stands for, and the size of the command.
-ghost use Rattle.std.specs.Prelude.{◌≡◌};
+ghost use Rattle.std.specs.Prelude.{◌≡◌, ◌≤◌};
+ghost use Rattle.select_and_transfer.specs.Sendable.{Sendable};
 ghost use Rattle.chip.specs.SelectAndTransfer.{has_size, size, stage};
 
 use chip::{Stage, State};
@@ -8,7 +9,7 @@ use state::activity;
 // By the top three bits of CDB byte 1. A group that has no size gets 0, as in the definition, which is then below no number of bytes taken.
 #[tactic(auto, unfolding(chip::specs::SelectAndTransfer::size, chip::specs::SelectAndTransfer::size_of, chip::specs::Choice::pick))]
 pub fn size(s: State) -> u8
-    ensures { result ≡ size s }
+    ensures { (result ≡ size s) × (result ≤ 12) }
 {
     match s.registers.descriptor.cdb[0] >> 5 {
         0 => 6,
@@ -28,7 +29,7 @@ pub fn has_size(s: State) -> bool
 // What the phase register of the running command stands for. At 3xh x command bytes were taken.
 #[tactic(auto, unfolding(chip::specs::SelectAndTransfer::stage, chip::specs::SelectAndTransfer::stage_of, chip::specs::SelectAndTransfer::first_stage, chip::specs::SelectAndTransfer::next_stage, chip::specs::SelectAndTransfer::is_command_phase, chip::specs::Choice::pick, chip::specs::Choice::both))]
 pub fn stage(s: State) -> Stage
-    ensures { result ≡ stage s }
+    ensures { (result ≡ stage s) × Sendable result }
 {
     let size = size(s);
     match s.registers.descriptor.phase {
