@@ -10,11 +10,14 @@ use state::activity;
 fn idle_request(p: Phase, mut s: State) -> Reply
     ensures { result ≡ idle_request p s }
 {
-    if s.wire.seen.reported == Some(p) || interrupts::interrupted(s) {
+    if transfer_info::is_reported(p, s) || interrupts::interrupted(s) {
         return says(Answer::Held, s);
     }
     s.wire.seen.reported = Some(p);
-    says(Answer::Reported, interrupts::raise(phases::coded(0x88, p), s))
+    says(
+        Answer::Reported,
+        interrupts::raise(phases::coded(0x88, p), s),
+    )
 }
 
 #[tactic(auto, unfolding(chip::specs::Events::requested_running, chip::specs::Choice::pick))]

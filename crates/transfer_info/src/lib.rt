@@ -5,6 +5,7 @@
 ghost use Rattle.std.specs.Prelude.{◌≡◌};
 ghost use Rattle.chip.specs.Choice.{both};
 ghost use Rattle.chip.specs.Lines.{hsp};
+ghost use Rattle.chip.specs.Phases.{is_noted};
 ghost use Rattle.chip.specs.TransferInfo.{
   atn_after,
   halted,
@@ -130,13 +131,20 @@ fn over(p: Phase, s: State) -> Reply
     )
 }
 
+// p is the reported phase.
+pub fn is_reported(p: Phase, s: State) -> bool
+    ensures { result ≡ is_noted p s.wire.seen.reported }
+{
+    s.wire.seen.reported == Some(p)
+}
+
 // A byte crosses in the phase under transfer, as long as bytes are left.
 #[tactic(auto, unfolding(chip::specs::TransferInfo::transfer_info_request, chip::specs::Choice::pick, chip::specs::Choice::both))]
 pub fn request(request: Request, s: State) -> Reply
     ensures { result ≡ transfer_info_request request.phase request.byte request.bad s }
 {
     let p = request.phase;
-    let moves = s.wire.seen.reported == Some(p) && !count::none_left(s);
+    let moves = is_reported(p, s) && !count::none_left(s);
     if !moves {
         over(p, s)
     } else if phases::comes_in(p) {
