@@ -4,235 +4,111 @@
 ghost use Rattle.std.specs.Prelude.{◌≡◌};
 ghost use Rattle.chip.specs.Commands.{entry_of, is_place, is_two};
 
-use chip::{Entry, Level, Place, State};
-use state::connections;
+use chip::{Connection, Entry, Level, Place, State};
+
+// The kinds of rows: a level, and where the command is valid.
+const ONE_ANYWHERE: Entry = Entry {
+    level: Level::One,
+    place: Place::Anywhere,
+};
+
+const ONE_CONNECTED: Entry = Entry {
+    level: Level::One,
+    place: Place::WhenConnected,
+};
+
+const ONE_CONNECTED_OR_WAITING: Entry = Entry {
+    level: Level::One,
+    place: Place::WhenConnectedOrWaiting,
+};
+
+const TWO_DISCONNECTED: Entry = Entry {
+    level: Level::Two,
+    place: Place::WhenDisconnected,
+};
+
+const TWO_CONNECTED: Entry = Entry {
+    level: Level::Two,
+    place: Place::WhenConnected,
+};
+
+const TWO_CONNECTED_OR_DISCONNECTED: Entry = Entry {
+    level: Level::Two,
+    place: Place::WhenConnectedOrDisconnected,
+};
+
+const LEFT_OUT: Entry = Entry {
+    level: Level::Two,
+    place: Place::Nowhere,
+};
 
 const TABLE: [Entry; 34] = [
-    // 00 Reset
-    Entry {
-        level: Level::One,
-        place: Place::Anywhere,
-    },
-    // 01 Abort
-    Entry {
-        level: Level::One,
-        place: Place::Anywhere,
-    },
-    // 02 Assert ATN
-    Entry {
-        level: Level::One,
-        place: Place::WhenConnected,
-    },
-    // 03 Negate ACK
-    Entry {
-        level: Level::One,
-        place: Place::WhenConnected,
-    },
-    // 04 Disconnect
-    Entry {
-        level: Level::One,
-        place: Place::WhenConnected,
-    },
-    // 05 Reselect
-    Entry {
-        level: Level::Two,
-        place: Place::Nowhere,
-    },
-    // 06 Select with ATN
-    Entry {
-        level: Level::Two,
-        place: Place::WhenDisconnected,
-    },
-    // 07 Select without ATN
-    Entry {
-        level: Level::Two,
-        place: Place::WhenDisconnected,
-    },
-    // 08 Select-And-Transfer with ATN
-    Entry {
-        level: Level::Two,
-        place: Place::WhenConnectedOrDisconnected,
-    },
-    // 09 Select-And-Transfer without ATN
-    Entry {
-        level: Level::Two,
-        place: Place::WhenConnectedOrDisconnected,
-    },
-    // 0Ah Reselect-and-Receive-Data
-    Entry {
-        level: Level::Two,
-        place: Place::Nowhere,
-    },
-    // 0Bh Reselect-and-Send-Data
-    Entry {
-        level: Level::Two,
-        place: Place::Nowhere,
-    },
-    // 0Ch Wait-for-Select-and-Receive
-    Entry {
-        level: Level::Two,
-        place: Place::Nowhere,
-    },
-    // 0Dh Send-Status-and-Command-Complete
-    Entry {
-        level: Level::Two,
-        place: Place::Nowhere,
-    },
-    // 0Eh Send-Disconnect-Message
-    Entry {
-        level: Level::Two,
-        place: Place::Nowhere,
-    },
-    // 0Fh Set IDI
-    Entry {
-        level: Level::One,
-        place: Place::WhenConnectedOrWaiting,
-    },
-    // 10h Receive Command
-    Entry {
-        level: Level::Two,
-        place: Place::Nowhere,
-    },
-    // 11h Receive Data
-    Entry {
-        level: Level::Two,
-        place: Place::Nowhere,
-    },
-    // 12h Receive Message Out
-    Entry {
-        level: Level::Two,
-        place: Place::Nowhere,
-    },
-    // 13h Receive Unspecified Info Out
-    Entry {
-        level: Level::Two,
-        place: Place::Nowhere,
-    },
-    // 14h Send Status
-    Entry {
-        level: Level::Two,
-        place: Place::Nowhere,
-    },
-    // 15h Send Data
-    Entry {
-        level: Level::Two,
-        place: Place::Nowhere,
-    },
-    // 16h Send Message In
-    Entry {
-        level: Level::Two,
-        place: Place::Nowhere,
-    },
-    // 17h Send Unspecified Info In
-    Entry {
-        level: Level::Two,
-        place: Place::Nowhere,
-    },
-    // 18h Translate Address
-    Entry {
-        level: Level::Two,
-        place: Place::WhenDisconnected,
-    },
-    // 19h
-    Entry {
-        level: Level::Two,
-        place: Place::Nowhere,
-    },
-    // 1Ah
-    Entry {
-        level: Level::Two,
-        place: Place::Nowhere,
-    },
-    // 1Bh
-    Entry {
-        level: Level::Two,
-        place: Place::Nowhere,
-    },
-    // 1Ch
-    Entry {
-        level: Level::Two,
-        place: Place::Nowhere,
-    },
-    // 1Dh
-    Entry {
-        level: Level::Two,
-        place: Place::Nowhere,
-    },
-    // 1Eh
-    Entry {
-        level: Level::Two,
-        place: Place::Nowhere,
-    },
-    // 1Fh
-    Entry {
-        level: Level::Two,
-        place: Place::Nowhere,
-    },
-    // 20h Transfer Info
-    Entry {
-        level: Level::Two,
-        place: Place::WhenConnected,
-    },
-    // 21h Transfer Pad
-    Entry {
-        level: Level::Two,
-        place: Place::Nowhere,
-    },
+    ONE_ANYWHERE, // 00 Reset
+    ONE_ANYWHERE, // 01 Abort
+    ONE_CONNECTED, // 02 Assert ATN
+    ONE_CONNECTED, // 03 Negate ACK
+    ONE_CONNECTED, // 04 Disconnect
+    LEFT_OUT, // 05 Reselect
+    TWO_DISCONNECTED, // 06 Select with ATN
+    TWO_DISCONNECTED, // 07 Select without ATN
+    TWO_CONNECTED_OR_DISCONNECTED, // 08 Select-And-Transfer with ATN
+    TWO_CONNECTED_OR_DISCONNECTED, // 09 Select-And-Transfer without ATN
+    LEFT_OUT, // 0Ah Reselect-and-Receive-Data
+    LEFT_OUT, // 0Bh Reselect-and-Send-Data
+    LEFT_OUT, // 0Ch Wait-for-Select-and-Receive
+    LEFT_OUT, // 0Dh Send-Status-and-Command-Complete
+    LEFT_OUT, // 0Eh Send-Disconnect-Message
+    ONE_CONNECTED_OR_WAITING, // 0Fh Set IDI
+    LEFT_OUT, // 10h Receive Command
+    LEFT_OUT, // 11h Receive Data
+    LEFT_OUT, // 12h Receive Message Out
+    LEFT_OUT, // 13h Receive Unspecified Info Out
+    LEFT_OUT, // 14h Send Status
+    LEFT_OUT, // 15h Send Data
+    LEFT_OUT, // 16h Send Message In
+    LEFT_OUT, // 17h Send Unspecified Info In
+    TWO_DISCONNECTED, // 18h Translate Address
+    LEFT_OUT, // 19h
+    LEFT_OUT, // 1Ah
+    LEFT_OUT, // 1Bh
+    LEFT_OUT, // 1Ch
+    LEFT_OUT, // 1Dh
+    LEFT_OUT, // 1Eh
+    LEFT_OUT, // 1Fh
+    TWO_CONNECTED, // 20h Transfer Info
+    LEFT_OUT, // 21h Transfer Pad
 ];
 
+#[tactic(auto, unfolding(chip::specs::Commands::entry_of, chip::specs::Commands::table))]
 pub fn entry_of(n: u8) -> Entry
     ensures { result ≡ entry_of n }
 {
-    if n < 34 {
-        let at = n as usize;
-        return TABLE[at];
-    }
-    Entry {
-        level: Level::Two,
-        place: Place::Nowhere,
-    }
+    TABLE.get(n as usize).copied().unwrap_or(LEFT_OUT)
 }
 
 // The command counts as Level II.
 pub fn is_two(l: Level) -> bool
     ensures { result ≡ is_two l }
 {
-    match l {
-        Level::One => false,
-        Level::Two => true,
-    }
-}
-
-#[tactic(auto, unfolding(chip::specs::Choice::either))]
-fn is_connected_or_waiting(s: State) -> bool
-    ensures { result ≡ is_place Place.WhenConnectedOrWaiting s.wire.connection }
-{
-    if connections::is_connected(s) {
-        return true;
-    }
-    connections::is_waiting(s)
-}
-
-#[tactic(auto, unfolding(chip::specs::Choice::either))]
-fn is_connected_or_disconnected(s: State) -> bool
-    ensures { result ≡ is_place Place.WhenConnectedOrDisconnected s.wire.connection }
-{
-    if connections::is_connected(s) {
-        return true;
-    }
-    connections::is_disconnected(s)
+    matches!(l, Level::Two)
 }
 
 // The connection is one in which the command is valid.
+#[tactic(auto, unfolding(chip::specs::Choice::either))]
 pub fn is_place(p: Place, s: State) -> bool
     ensures { result ≡ is_place p s.wire.connection }
 {
+    let connection = s.wire.connection;
     match p {
         Place::Nowhere => false,
         Place::Anywhere => true,
-        Place::WhenDisconnected => connections::is_disconnected(s),
-        Place::WhenConnected => connections::is_connected(s),
-        Place::WhenConnectedOrWaiting => is_connected_or_waiting(s),
-        Place::WhenConnectedOrDisconnected => is_connected_or_disconnected(s),
+        Place::WhenDisconnected => connection == Connection::Disconnected,
+        Place::WhenConnected => connection == Connection::Connected,
+        Place::WhenConnectedOrWaiting => {
+            matches!(connection, Connection::Connected | Connection::Waiting)
+        }
+        Place::WhenConnectedOrDisconnected => {
+            matches!(connection, Connection::Connected | Connection::Disconnected)
+        }
     }
 }
