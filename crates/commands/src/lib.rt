@@ -7,47 +7,36 @@ pub mod act;
 ghost use Rattle.std.specs.Prelude.{◌≡◌};
 ghost use Rattle.chip.specs.Commands.{carried_out, commanded};
 
-use chip::{Command, Reply, State};
-use state::set;
+use crate::accept::Asked;
+use chip::{Answer, Command, Reply, State};
 
 #[tactic(auto, unfolding(chip::specs::Commands::carried_out, chip::specs::Choice::pick))]
-fn carried_out(n: u8, single: bool, s: State) -> State
+fn carried_out(n: u8, single: bool, mut s: State) -> State
     ensures { result ≡ carried_out n single s }
 {
-    if n == 0x01 {
-        return act::aborted(s);
+    match n {
+        0x01 => act::aborted(s),
+        0x02 => {
+            s.wire.handshake.atn = true;
+            s
+        }
+        0x03 => {
+            s.wire.handshake.ack = false;
+            s
+        }
+        0x04 => act::disconnected(s),
+        0x06 => act::selecting(Command::SelectWithAtn, s),
+        0x07 => act::selecting(Command::SelectWithoutAtn, s),
+        0x08 => act::select_and_transfer_begun(Command::SelectAndTransferWithAtn, s),
+        0x09 => act::select_and_transfer_begun(Command::SelectAndTransferWithoutAtn, s),
+        0x0f => {
+            s.registers.setup.control = lines::with_idi(s.registers.setup.control);
+            s
+        }
+        0x18 => translate::translated(s),
+        0x20 => act::transfer_info_begun(single, s),
+        _ => s,
     }
-    if n == 0x02 {
-        return set::atn(s, true);
-    }
-    if n == 0x03 {
-        return set::ack(s, false);
-    }
-    if n == 0x04 {
-        return act::disconnected(s);
-    }
-    if n == 0x06 {
-        return act::selecting(Command::SelectWithAtn, s);
-    }
-    if n == 0x07 {
-        return act::selecting(Command::SelectWithoutAtn, s);
-    }
-    if n == 0x08 {
-        return act::select_and_transfer_begun(Command::SelectAndTransferWithAtn, s);
-    }
-    if n == 0x09 {
-        return act::select_and_transfer_begun(Command::SelectAndTransferWithoutAtn, s);
-    }
-    if n == 0x0f {
-        return set::control(s, lines::with_idi(s.registers.setup.control));
-    }
-    if n == 0x18 {
-        return translate::translated(s);
-    }
-    if n == 0x20 {
-        return act::transfer_info_begun(single, s);
-    }
-    s
 }
 
 // A write of b to the command register.
@@ -55,21 +44,20 @@ fn carried_out(n: u8, single: bool, s: State) -> State
 pub fn commanded(b: u8, s: State) -> Reply
     ensures { result ≡ commanded b s }
 {
-    let n = lines::code_of(b);
-    // "A constant table of 34 entries, level and valid connection, looked up before a command is accepted."
-    let e = command_list::entry_of(n);
-    if n == 0x00 {
-        return answers::done(0, act::reset(b, s));
+    let asked = Asked::of(lines::code_of(b));
+    if asked.code == 0x00 {
+        return answers::says(Answer::Done(0), act::reset(b, s));
     }
-    if interrupts::interrupted(s) {
+    if interrupts::interrupted(s) || asked.is_refused_busy(s) {
         return answers::ignored(s);
     }
-    if accept::is_refused_busy(e, n, s) {
-        return answers::ignored(s);
+    let t = accept::accepted(b, s);
+    if asked.is_valid(s) {
+        answers::says(
+            Answer::Done(0),
+            carried_out(asked.code, lines::is_single(b), t),
+        )
+    } else {
+        answers::says(Answer::Done(0), interrupts::interrupt(0x40, t))
     }
-    if accept::is_valid(e, n, s) {
-        let t = accept::accepted(b, s);
-        return answers::done(0, carried_out(n, lines::is_single(b), t));
-    }
-    answers::done(0, interrupts::interrupt(0x40, accept::accepted(b, s)))
 }
