@@ -4,13 +4,11 @@
 pub mod data_register;
 pub mod register;
 
-ghost use Rattle.std.specs.Prelude.{◌≡◌, not, ◌==◌};
-ghost use Rattle.chip.specs.Choice.{both, either};
-ghost use Rattle.chip.specs.Interrupts.{busy};
+ghost use Rattle.std.specs.Prelude.{◌≡◌};
 ghost use Rattle.chip.specs.Registers.{accessed, accessed_at, auxiliary_read, is_blind, pointer_after, read_at, stepped, written_at};
 
 use chip::{Answer, Reply, State};
-use state::{activity, get, set};
+use state::activity;
 
 #[tactic(auto, unfolding(chip::specs::Registers::auxiliary_read))]
 pub fn auxiliary_read(s: State) -> Reply
@@ -19,7 +17,8 @@ pub fn auxiliary_read(s: State) -> Reply
     let int = interrupts::interrupted(s);
     let bsy = interrupts::busy(s);
     let dbr = count::dbr(s);
-    answers::done(lines::packed(int, s.status.lci, bsy, s.status.pe, dbr), s)
+    let byte = lines::packed(int, s.status.lci, bsy, s.status.pe, dbr);
+    answers::says(Answer::Done(byte), s)
 }
 
 // 18h, 19h and 1Fh keep the pointer (001, Address register).
@@ -27,103 +26,52 @@ pub fn auxiliary_read(s: State) -> Reply
 fn pointer_after(a: u8) -> u8
     ensures { result ≡ pointer_after a }
 {
-    if a == 0x18 {
-        return a;
+    match a {
+        0x18 | 0x19 | 0x1f => a,
+        _ => a.wrapping_add(1),
     }
-    if a == 0x19 {
-        return a;
-    }
-    if a == 0x1f {
-        return a;
-    }
-    std::num::wrapping_add_u8(a, 1)
 }
 
-// Reachable while BSY is set.
-#[tactic(auto, unfolding(chip::specs::Choice::either))]
-fn is_always_reachable(a: u8) -> bool
-    ensures { result ≡ either (a == 0x18) (a == 0x19) }
-{
-    if a == 0x18 {
-        return true;
-    }
-    a == 0x19
-}
-
-#[tactic(auto, unfolding(chip::specs::Choice::both, chip::specs::Interrupts::busy, chip::specs::Choice::either))]
-fn is_shut_by_busy(a: u8, s: State) -> bool
-    ensures { result ≡ both (busy s) (not (either (a == 0x18) (a == 0x19))) }
-{
-    if interrupts::busy(s) {
-        if is_always_reachable(a) {
-            return false;
-        }
-        return true;
-    }
-    false
-}
-
-#[tactic(auto, unfolding(chip::specs::Choice::both))]
-fn is_read_only(writes: bool, a: u8) -> bool
-    ensures { result ≡ both writes (a == 0x17) }
-{
-    if writes {
-        return a == 0x17;
-    }
-    false
-}
-
-#[tactic(auto, unfolding(chip::specs::Registers::is_blind, chip::specs::Choice::either, chip::specs::Choice::both))]
+// While BSY is set, 18h and 19h alone are reachable.
+#[tactic(auto, unfolding(chip::specs::Registers::is_blind, chip::specs::Interrupts::busy, chip::specs::Choice::either, chip::specs::Choice::both))]
 fn is_blind(writes: bool, a: u8, s: State) -> bool
     ensures { result ≡ is_blind writes a s }
 {
-    if 0x1a <= a {
-        return true;
-    }
-    if is_read_only(writes, a) {
-        return true;
-    }
-    is_shut_by_busy(a, s)
+    0x1a <= a || writes && a == 0x17 || interrupts::busy(s) && !matches!(a, 0x18 | 0x19)
 }
 
 #[tactic(auto, unfolding(chip::specs::Registers::read_at, chip::specs::Choice::pick))]
-fn read_at(a: u8, s: State) -> Reply
+fn read_at(a: u8, mut s: State) -> Reply
     ensures { result ≡ read_at a s }
 {
-    if a == 0x17 {
-        let a = activity::without_interrupt(get::activity(s));
-        return answers::done(s.status.code, set::activity(s, a));
+    match a {
+        0x17 => {
+            s.activity = activity::without_interrupt(s.activity);
+            answers::says(Answer::Done(s.status.code), s)
+        }
+        0x18 => answers::says(Answer::Done(s.status.command), s),
+        0x19 => data_register::data_read(s),
+        _ => answers::says(Answer::Done(register::register_at(a, s.registers)), s),
     }
-    if a == 0x18 {
-        return answers::done(s.status.command, s);
-    }
-    if a == 0x19 {
-        return data_register::data_read(s);
-    }
-    let registers = s.registers;
-    answers::done(register::register_at(a, registers), s)
 }
 
 #[tactic(auto, unfolding(chip::specs::Registers::written_at, chip::specs::Choice::pick))]
 fn written_at(a: u8, b: u8, s: State) -> Reply
     ensures { result ≡ written_at a b s }
 {
-    if a == 0x18 {
-        return commands::commanded(b, s);
+    match a {
+        0x18 => commands::commanded(b, s),
+        0x19 => data_register::data_written(b, s),
+        _ => answers::says(Answer::Done(0), register::stored(a, b, s)),
     }
-    if a == 0x19 {
-        return data_register::data_written(b, s);
-    }
-    answers::done(0, register::stored(a, b, s))
 }
 
 #[tactic(auto, unfolding(chip::specs::Registers::stepped))]
-fn stepped(a: u8, r: Reply) -> Reply
+fn stepped(a: u8, mut r: Reply) -> Reply
     ensures { result ≡ stepped a r }
 {
-    let s = r.state;
-    let answer = r.answer;
-    answers::says(answer, set::pointer(s, pointer_after(a)))
+    r.state.status.pointer = pointer_after(a);
+    r
 }
 
 #[tactic(auto, unfolding(chip::specs::Registers::accessed_at, chip::specs::Choice::pick))]
@@ -131,12 +79,12 @@ fn accessed_at(a: u8, writes: bool, b: u8, s: State) -> Reply
     ensures { result ≡ accessed_at a writes b s }
 {
     if is_blind(writes, a, s) {
-        return answers::says(Answer::Blind, s);
+        answers::says(Answer::Blind, s)
+    } else if writes {
+        written_at(a, b, s)
+    } else {
+        read_at(a, s)
     }
-    if writes {
-        return written_at(a, b, s);
-    }
-    read_at(a, s)
 }
 
 #[tactic(auto, unfolding(chip::specs::Registers::accessed))]

@@ -1,135 +1,50 @@
 // Registers 00 to 16h, read and stored at their addresses.
-ghost use Rattle.std.specs.Prelude.{◌≡◌, ◌+◌, ◌*◌, ◌/◌, ◌%◌};
-ghost use Rattle.chip.specs.Registers.{high_written, low_written, middle_written, register_at, stored, stored_in};
+ghost use Rattle.std.specs.Prelude.{◌≡◌};
+ghost use Rattle.chip.specs.Registers.{register_at, stored};
 
 use chip::{Registers, State};
-use state::set;
 
 #[tactic(auto, unfolding(chip::specs::Registers::register_at, chip::specs::Choice::pick))]
 pub fn register_at(a: u8, r: Registers) -> u8
     ensures { result ≡ register_at a r }
 {
-    if a == 0x00 {
-        return r.setup.own;
+    let [_, high, middle, low] = r.count.to_be_bytes();
+    match a {
+        0x00 => r.setup.own,
+        0x01 => r.setup.control,
+        0x02 => r.setup.timeout,
+        0x03..=0x0e => r.descriptor.cdb[(a - 3) as usize],
+        0x0f => r.descriptor.lun,
+        0x10 => r.descriptor.phase,
+        0x11 => r.setup.synchronous,
+        0x12 => high,
+        0x13 => middle,
+        0x14 => low,
+        0x15 => r.destination,
+        _ => r.source,
     }
-    if a == 0x01 {
-        return r.setup.control;
-    }
-    if a == 0x02 {
-        return r.setup.timeout;
-    }
-    if a < 0x0f {
-        let descriptor = r.descriptor;
-        let cdb = descriptor.cdb;
-        let at = (a - 3) as usize;
-        return cdb[at];
-    }
-    if a == 0x0f {
-        return r.descriptor.lun;
-    }
-    if a == 0x10 {
-        return r.descriptor.phase;
-    }
-    if a == 0x11 {
-        return r.setup.synchronous;
-    }
-    if a == 0x12 {
-        return lines::low_byte(r.count / 65536);
-    }
-    if a == 0x13 {
-        return lines::low_byte(r.count / 256);
-    }
-    if a == 0x14 {
-        return lines::low_byte(r.count);
-    }
-    if a == 0x15 {
-        return r.destination;
-    }
-    r.source
 }
 
-#[tactic(auto, unfolding(chip::specs::Registers::high_written))]
-fn high_written(b: u8, n: u32) -> u32
-    ensures { result ≡ high_written b n }
-{
-    (b as u32) * 65536 + n % 65536
-}
-
-#[tactic(auto, unfolding(chip::specs::Registers::middle_written))]
-fn middle_written(b: u8, n: u32) -> u32
-    ensures { result ≡ middle_written b n }
-{
-    n / 65536 * 65536 + (b as u32) * 256 + n % 256
-}
-
-#[tactic(auto, unfolding(chip::specs::Registers::low_written))]
-fn low_written(b: u8, n: u32) -> u32
-    ensures { result ≡ low_written b n }
-{
-    n / 256 * 256 + (b as u32)
-}
-
-// The registers with the one at a written.
-#[tactic(auto, unfolding(chip::specs::Registers::stored_in, chip::specs::Choice::pick))]
-fn stored_in(a: u8, b: u8, r: Registers) -> Registers
-    ensures { result ≡ stored_in a b r }
-{
-    let mut t = r;
-    if a == 0x00 {
-        t.setup.own = b;
-        return t;
-    }
-    if a == 0x01 {
-        t.setup.control = b;
-        return t;
-    }
-    if a == 0x02 {
-        t.setup.timeout = b;
-        return t;
-    }
-    if a < 0x0f {
-        let descriptor = r.descriptor;
-        let mut cdb = descriptor.cdb;
-        let at = (a - 3) as usize;
-        cdb[at] = b;
-        return set::with_cdb(cdb, r);
-    }
-    if a == 0x0f {
-        t.descriptor.lun = b;
-        return t;
-    }
-    if a == 0x10 {
-        t.descriptor.phase = b;
-        return t;
-    }
-    if a == 0x11 {
-        t.setup.synchronous = b;
-        return t;
-    }
-    if a == 0x12 {
-        t.count = high_written(b, r.count);
-        return t;
-    }
-    if a == 0x13 {
-        t.count = middle_written(b, r.count);
-        return t;
-    }
-    if a == 0x14 {
-        t.count = low_written(b, r.count);
-        return t;
-    }
-    if a == 0x15 {
-        t.destination = b;
-        return t;
-    }
-    t.source = b;
-    t
-}
-
-#[tactic(auto, unfolding(chip::specs::Registers::stored))]
-pub fn stored(a: u8, b: u8, s: State) -> State
+// The high byte of the count clears what stands above it, which no register shows; the other two keep it.
+#[tactic(auto, unfolding(chip::specs::Registers::stored, chip::specs::Registers::stored_in, chip::specs::Registers::high_written, chip::specs::Registers::middle_written, chip::specs::Registers::low_written, chip::specs::Choice::pick))]
+pub fn stored(a: u8, b: u8, mut s: State) -> State
     ensures { result ≡ stored a b s }
 {
-    let registers = s.registers;
-    set::registers(s, stored_in(a, b, registers))
+    let r = &mut s.registers;
+    let [top, high, middle, low] = r.count.to_be_bytes();
+    match a {
+        0x00 => r.setup.own = b,
+        0x01 => r.setup.control = b,
+        0x02 => r.setup.timeout = b,
+        0x03..=0x0e => r.descriptor.cdb[(a - 3) as usize] = b,
+        0x0f => r.descriptor.lun = b,
+        0x10 => r.descriptor.phase = b,
+        0x11 => r.setup.synchronous = b,
+        0x12 => r.count = u32::from_be_bytes([0, b, middle, low]),
+        0x13 => r.count = u32::from_be_bytes([top, high, b, low]),
+        0x14 => r.count = u32::from_be_bytes([top, high, middle, b]),
+        0x15 => r.destination = b,
+        _ => r.source = b,
+    }
+    s
 }
