@@ -3,10 +3,10 @@
 #![tactic(auto)]
 
 mod calls; // calls.rt: a line's call, made on the image
-mod codes; // codes.rt: in which session each status code was first read
-mod names; // names.rt: answers, codes and numbers written
+mod codes; // codes.rt: the status codes, and in which session each was first read
+mod names; // names.rt: numbers, bits and codes written
+mod reply; // reply.rt: an entry's result taken apart
 mod script; // script.rt: line by line
-mod tables; // tables.rt: the words of answers, phases and codes
 mod words; // words.rt: a line taken apart
 
 fn main() {

@@ -1,26 +1,23 @@
-// Answers, codes and numbers in words, written to the output.
-use crate::tables;
-
+// Numbers, bits and lines written to the output. A `write!` would want an error of each, and a text of words and not bytes.
 pub(crate) fn say(text: &[u8]) {
     io::write_all(1, text);
 }
 
 const DIGITS: [u8; 16] = *b"0123456789ABCDEF";
 
-// A byte as the paper writes it: 8Bh.
+// The low byte of a number as the paper writes it: 8Bh.
 pub(crate) fn say_byte(n: u32) {
     let high = (n / 16 % 16) as usize;
     let low = (n % 16) as usize;
-    let text = [DIGITS[high], DIGITS[low], b'h'];
-    say(&text);
+    say(&[DIGITS[high], DIGITS[low], b'h']);
 }
 
-pub(crate) fn say_decimal(n: u32) {
-    io::print_decimal(1, n as u64);
+pub(crate) fn say_decimal(n: impl Into<u64>) {
+    io::print_decimal(1, n.into());
 }
 
 // A number below 100 in a column of three.
-pub(crate) fn say_number(n: u32) {
+pub(crate) fn say_number(n: u8) {
     if n < 10 {
         say(b" ");
     }
@@ -28,43 +25,37 @@ pub(crate) fn say_number(n: u32) {
     say_decimal(n);
 }
 
-pub(crate) fn say_row(table: &[u8], k: u32) {
-    let r = tables::row(table, k);
-    let from = r.from;
-    let to = r.to;
-    say(&table[from..to]);
-}
+// Auxiliary status, from bit 7 down; bits 3 and 2 are always 0.
+const AUXILIARY: [(u32, &[u8]); 6] = [
+    (0x80, b" INT"),
+    (0x40, b" LCI"),
+    (0x20, b" BSY"),
+    (0x10, b" CIP"),
+    (0x02, b" PE"),
+    (0x01, b" DBR"),
+];
 
-pub(crate) fn say_answer(number: u32) {
-    say_row(&tables::ANSWER_NAMES, number);
-}
-
-// The code and its name.
-pub(crate) fn say_code(code: u32) {
-    say_row(&tables::CODES, tables::row_of_code(code));
-}
-
-fn say_flag(bits: u32, k: u32) {
-    if bits / 128 % 2 == 1 {
-        say(b" ");
-        say_row(&tables::AUXILIARY, k);
+pub(crate) fn say_auxiliary(bits: u32) {
+    for (bit, name) in &AUXILIARY {
+        if bits & *bit != 0 {
+            say(name);
+        }
     }
 }
 
-pub(crate) fn say_auxiliary(aux: u32) {
-    let mut bits = aux % 256;
-    for k in 0..8 {
-        say_flag(bits, k);
-        bits = bits % 128 * 2;
-    }
-}
-
+// What the controller drives: its connection in bits 5 to 3, of which at most one is set, ATN, ACK, and the Target.
 pub(crate) fn say_lines(lines: u32) {
-    say_row(&tables::CONNECTIONS, lines / 8 % 8);
-    if lines / 64 % 2 == 1 {
+    say(match lines / 8 % 8 {
+        0 => b"Disconnected",
+        1 => b"connected",
+        2 => b"selecting",
+        4 => b"waiting for reselection",
+        _ => b"",
+    });
+    if lines & 0x40 != 0 {
         say(b" ATN");
     }
-    if lines / 128 % 2 == 1 {
+    if lines & 0x80 != 0 {
         say(b" ACK");
     }
     say(b", Target ");
