@@ -19,8 +19,9 @@ use controller::{
     am33c93a_lines, am33c93a_pointer, am33c93a_register, am33c93a_request, am33c93a_reselection,
     am33c93a_time,
 };
+use std::array;
 
-// The first word of a line; the host's calls first.
+// The first word of a line: the host's calls, and from Time on the disk's.
 #[derive(Clone, Copy, PartialEq, Eq)]
 pub(crate) enum Verb {
     SetPointer,
@@ -127,21 +128,21 @@ impl Device {
     }
 
     pub(crate) fn auxiliary(&mut self) -> Reply {
-        Reply::from(am33c93a_auxiliary(&mut self.image))
+        am33c93a_auxiliary(&mut self.image).into()
     }
 
     fn point(&mut self, address: u32) -> Reply {
-        Reply::from(am33c93a_pointer(&mut self.image, 1, address))
+        am33c93a_pointer(&mut self.image, 1, address).into()
     }
 
     fn read(&mut self, address: u32) -> Reply {
         self.point(address);
-        Reply::from(am33c93a_register(&mut self.image, 0, 0))
+        am33c93a_register(&mut self.image, 0, 0).into()
     }
 
     // In the register where the pointer stands, which then steps by itself.
     fn write(&mut self, byte: u32) -> Reply {
-        Reply::from(am33c93a_register(&mut self.image, 1, byte))
+        am33c93a_register(&mut self.image, 1, byte).into()
     }
 
     // Rising bytes in registers that follow each other.
@@ -209,20 +210,15 @@ impl Device {
 
     // Bytes that rise by one from the first on.
     fn block_out(&mut self, n: u32, first: u32) -> Reply {
-        let mut data = [0u8; 32];
-        let mut byte = (first % 256) as u8;
-        for place in data.iter_mut() {
-            *place = byte;
-            byte = byte.wrapping_add(1);
-        }
+        let mut data: [u8; 32] = array::from_fn(|i| ((first as usize).wrapping_add(i) % 256) as u8);
         let k = (n as usize).min(data.len());
-        Reply::from(am33c93a_block(&mut self.image, 1, &mut data[..k]))
+        am33c93a_block(&mut self.image, 1, &mut data[..k]).into()
     }
 
     fn block_in(&mut self, n: u32) -> Reply {
         let data = &mut self.data[..];
         let k = (n as usize).min(data.len());
-        Reply::from(am33c93a_block(&mut self.image, 0, &mut data[..k]))
+        am33c93a_block(&mut self.image, 0, &mut data[..k]).into()
     }
 
     // The i-th Request of a series: its byte has risen i times.
@@ -230,7 +226,7 @@ impl Device {
         let phase = phase_number(words::word(line, 1));
         let byte = words::operand(line, 2).wrapping_add(i);
         let is_bad = matches!(words::word(line, 3), b"bad");
-        Reply::from(am33c93a_request(&mut self.image, phase, byte, is_bad as u32))
+        am33c93a_request(&mut self.image, phase, byte, is_bad as u32).into()
     }
 
     // A line that is no call is Bad number.
@@ -242,7 +238,7 @@ impl Device {
         let b = words::operand(line, 2);
         match verb {
             Verb::SetPointer => self.point(a),
-            Verb::ReadPointer => Reply::from(am33c93a_pointer(&mut self.image, 0, 0)),
+            Verb::ReadPointer => am33c93a_pointer(&mut self.image, 0, 0).into(),
             Verb::Auxiliary => self.auxiliary(),
             Verb::Read => self.read(a),
             Verb::Write => self.write_rising(a, b, times(line)),
@@ -254,12 +250,12 @@ impl Device {
             Verb::In => self.block_in(a),
             Verb::Translate => self.translate(line),
             Verb::Cylinder => self.read_cylinder(),
-            Verb::Time => Reply::from(am33c93a_time(&mut self.image, a)),
-            Verb::Answer => Reply::from(am33c93a_answer(&mut self.image)),
-            Verb::Reselection => Reply::from(am33c93a_reselection(&mut self.image, a)),
+            Verb::Time => am33c93a_time(&mut self.image, a).into(),
+            Verb::Answer => am33c93a_answer(&mut self.image).into(),
+            Verb::Reselection => am33c93a_reselection(&mut self.image, a).into(),
             Verb::Request => self.request(line, 0),
-            Verb::Free => Reply::from(am33c93a_free(&mut self.image)),
-            Verb::Lines => Reply::from(am33c93a_lines(&self.image)),
+            Verb::Free => am33c93a_free(&mut self.image).into(),
+            Verb::Lines => am33c93a_lines(&self.image).into(),
         }
     }
 }

@@ -55,10 +55,8 @@ static CODES: [(u8, &[u8]); 46] = [
 
 // The code and its name; nothing for a number that is no code.
 pub(crate) fn say_code(value: u32) {
-    for (code, name) in &CODES {
-        if u32::from(*code) == value {
-            say_named(*code, name);
-        }
+    if let Some((code, name)) = CODES.iter().find(|(code, _)| u32::from(*code) == value) {
+        say_named(*code, name);
     }
 }
 
@@ -87,7 +85,7 @@ impl FirstReads {
         }
     }
 
-    fn of(&self, code: u8) -> Option<NonZeroU8> {
+    fn session_of(&self, code: u8) -> Option<NonZeroU8> {
         self.by_code[usize::from(code)]
     }
 
@@ -95,7 +93,7 @@ impl FirstReads {
     pub(crate) fn say_all(&self) {
         for (code, name) in &CODES {
             say(b"  ");
-            match self.of(*code) {
+            match self.session_of(*code) {
                 None => say(b"NEVER READ"),
                 Some(session) => {
                     say(b"session");
@@ -112,7 +110,7 @@ impl FirstReads {
     pub(crate) fn say_count(&self) {
         let read = CODES
             .iter()
-            .filter(|(code, _)| self.of(*code).is_some())
+            .filter(|(code, _)| self.session_of(*code).is_some())
             .count();
         names::say_decimal(read as u64);
         say(b" of ");

@@ -1,9 +1,10 @@
-// Numbers, bits and lines written to the output. A `write!` would want an error of each, and a text of words and not bytes.
+// Numbers, bits and lines written to the output by the calls of `io`: `write!` takes no bytes that are not text, and each of its calls
+// returns an error, which this program would have to drop.
 pub(crate) fn say(text: &[u8]) {
     io::write_all(1, text);
 }
 
-const DIGITS: [u8; 16] = *b"0123456789ABCDEF";
+const DIGITS: &[u8; 16] = b"0123456789ABCDEF";
 
 // The low byte of a number as the paper writes it: 8Bh.
 pub(crate) fn say_byte(n: u32) {

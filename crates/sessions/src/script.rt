@@ -24,14 +24,6 @@ struct Bench {
     wrong: u64,
 }
 
-// A series of Requests: the first and the last reply, and whether each value was one above that before it.
-#[derive(Clone, Copy)]
-struct Series {
-    start: Reply,
-    last: Reply,
-    rises: bool,
-}
-
 impl Bench {
     fn new() -> Bench {
         Bench {
@@ -44,17 +36,17 @@ impl Bench {
     }
 
     fn step(&mut self, line: &[u8]) {
-        if line.is_empty() {
-            return;
-        }
-        if line[0] == b'#' {
-            say(b"\n  ");
-            say(line);
-        } else if matches!(words::word(line, 0), b"session") {
-            self.begin(line);
-        } else {
-            let (call, rest) = words::split_once(line, b'=').unwrap_or((line, b""));
-            self.call(words::trim_end(call), rest);
+        match line {
+            [] => {}
+            [b'#', ..] => {
+                say(b"\n  ");
+                say(line);
+            }
+            _ if matches!(words::word(line, 0), b"session") => self.begin(line),
+            _ => {
+                let (call, rest) = words::split_once(line, b'=').unwrap_or((line, b""));
+                self.call(words::trim_end(call), rest);
+            }
         }
     }
 
@@ -69,8 +61,9 @@ impl Bench {
         let verb = Verb::of(line);
         let before = self.device.auxiliary().value;
         say_call(verb, line);
-        if verb == Some(Verb::Request) && calls::times(line) > 1 {
-            self.call_series(line, rest);
+        let times = calls::times(line);
+        if verb == Some(Verb::Request) && times > 1 {
+            self.call_series(line, times, rest);
             return;
         }
         let reply = self.device.call(verb, line);
@@ -82,29 +75,22 @@ impl Bench {
         self.compare(reply == Reply::expected(rest), rest);
     }
 
-    fn call_series(&mut self, line: &[u8], rest: &[u8]) {
-        let series = self.requests(line, calls::times(line));
-        say(series.start.answer.name());
-        say(b" ");
-        names::say_byte(series.start.value);
-        say(b" to ");
-        names::say_byte(series.last.value);
-        self.compare(series.rises && series.start == Reply::expected(rest), rest);
-    }
-
-    fn requests(&mut self, line: &[u8], n: u32) -> Series {
+    // A series of Requests: the first and the last reply, where each value was one above that before it.
+    fn call_series(&mut self, line: &[u8], n: u32, rest: &[u8]) {
         let start = self.device.request(line, 0);
-        let mut series = Series {
-            start,
-            last: start,
-            rises: true,
-        };
+        let mut last = start;
+        let mut rises = true;
         for i in 1..n {
             let reply = self.device.request(line, i);
-            series.rises &= reply == series.last.risen();
-            series.last = reply;
+            rises &= reply == last.risen();
+            last = reply;
         }
-        series
+        say(start.answer.name());
+        say(b" ");
+        names::say_byte(start.value);
+        say(b" to ");
+        names::say_byte(last.value);
+        self.compare(rises && start == Reply::expected(rest), rest);
     }
 
     fn compare(&mut self, is_right: bool, rest: &[u8]) {

@@ -15,7 +15,7 @@ pub(crate) fn split_once(text: &[u8], mark: u8) -> Option<(&[u8], &[u8])> {
     Some((parts.next()?, parts.next()?))
 }
 
-// Without the blanks at its end. (`trim_ascii_end` would take tabs too.)
+// Without the blanks at its end; `trim_ascii_end` would cut tabs and line ends of other systems too.
 pub(crate) fn trim_end(text: &[u8]) -> &[u8] {
     let end = text
         .iter()
@@ -24,7 +24,7 @@ pub(crate) fn trim_end(text: &[u8]) -> &[u8] {
     &text[..end]
 }
 
-// Hexadecimal digits are upper case, as in the papers; `to_digit` would take the others too.
+// Hexadecimal digits are upper case, as in the papers: `to_digit` would read lower case too.
 fn digit(b: u8) -> u32
     ensures { result < 16 }
 {
@@ -43,11 +43,12 @@ fn with_digit(n: u32, base: u32, b: u8) -> u32
 }
 
 // What a word says as a number; 0 for a word that is none.
-pub(crate) fn number(word: &[u8]) -> u32 {
-    match word {
-        [digits @ .., b'h'] => digits.iter().fold(0, |n, b| with_digit(n, 16, *b)),
-        _ => word.iter().fold(0, |n, b| with_digit(n, 10, *b)),
-    }
+fn number(word: &[u8]) -> u32 {
+    let (digits, base) = match word {
+        [digits @ .., b'h'] => (digits, 16),
+        _ => (word, 10),
+    };
+    digits.iter().fold(0, |n, b| with_digit(n, base, *b))
 }
 
 pub(crate) fn operand(line: &[u8], k: usize) -> u32 {
