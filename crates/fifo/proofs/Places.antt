@@ -1,105 +1,77 @@
 -- The FIFO's part of the image: a part is how many wait, the place of the oldest, and the twelve places.
---   copied places_long put_over   the places copied out of a part, and into one
 --   front_in popped_in pushed_in   the oldest byte read, taken away, and one byte more, as the code stores them
 --   none_in beyond_in empty_in full_in   where there is none to read or to take, and no room
 --   ends_in                        the ends stored, and the place behind those that waited
---   ends_put                       the ends alone
-use mathlib.Core.Path.{◌≡◌, refl, ap, sym, ◌∙◌}
-use mathlib.Core.Bool.{true, false}
-use mathlib.Core.List.{List, [], ◌∷◌, ◌++◌, append-nil}
+--   ends_put end_put               the ends alone, and how many wait alone
+use mathlib.Core.Path.{◌≡◌, refl, ap, ◌∙◌}
+use mathlib.Core.Logic.{◌≢◌}
+use mathlib.Core.List.{List, [], ◌∷◌}
 use Prim.Native.Nat.{ℕ, suc, ◌+◌, ◌-◌, ◌<◌, ◌≤◌}
 use native.Mathlib.Omega.{arith}
-use lib.Dec.{eqb, ltb}
-use lib.ListN.{length, take, drop, set, get_or, length-drop, drop_of_length-le, get_or-eq_default}
-use lib.Seq.{get_or-take, length-take-le, take_all}
-use borrow.Author.Tests.{eq-eqb}
-use borrow.Rule.Slice.PartMut.{put_mid}
+use lib.Dec.{eqb}
+use lib.ListN.{length, take, drop, set, get_or, length-drop, get_or-eq_default}
+use lib.Seq.{get_or-drop, get_or-take, length-take-le, take_all}
+use borrow.Author.Tests.{eq-eqb, ne_eqb, lt-ltb, le-ltb}
 use Rattle.chip.specs.Choice.{pick}
 use Rattle.chip.specs.Fifo.{is_empty, has_room, front, pop, push, place_behind, round, fifo_bytes, fifo_of, ends_over}
 use Rattle.chip.specs.declared.Fifo.{Fifo}
-use Rattle.chip.proofs.Cases.{by_pick, taken}
+use Rattle.chip.proofs.Cases.{by_pick, taken, passed_over}
 use Rattle.chip.proofs.FifoLaws.{bytes_back}
-
--- a copy over as many bytes or fewer is what was copied
-pub copied : (src dst m : List ℕ) → length dst ≤ length src → m ≡ take (length src) src ++ drop (length src) dst → m ≡ src
-copied src dst m h e =
-    e ∙ ap (λ (x : List ℕ). x ++ drop (length src) dst) (take_all (length src) src (omega arith))
-    ∙ ap (λ (x : List ℕ). src ++ x) (drop_of_length-le dst {i = length src} h)
-    ∙ append-nil src
-
-pub places_long : (l : List ℕ) → length l ≡ 14 → length (take 12 (drop 2 l)) ≡ 12
-places_long l h = length-take-le 12 (drop 2 l) (rw length-drop (omega arith))
-
--- fourteen bytes stored over as many
-pub put_over : (l b m : List ℕ) (n k : ℕ) → length l ≡ 14 → length b ≡ 12 → m ≡ take (length b) b ++ drop (length b) (take 12 (drop 2 l))
-    → pick (eqb (length (put_mid 2 12 l m)) 14) (set (set (put_mid 2 12 l m) 0 n) 1 k) (put_mid 2 12 l m) ≡ n ∷ k ∷ b
-put_over [] b m n k h z e = absurd (omega arith)
-put_over (x ∷ []) b m n k h z e = absurd (omega arith)
-put_over (x ∷ y ∷ l) b m n k h z e =
-    let over : m ++ drop 12 l ≡ b =
-    ap (λ (r : List ℕ). r ++ drop 12 l) (copied b (take 12 l) m (omega (arith, places_long (x ∷ y ∷ l) h)) e)
-    ∙ ap (λ (r : List ℕ). b ++ r) (drop_of_length-le l {i = 12} (omega arith)) ∙ append-nil b in
-    ap (λ (r : List ℕ). pick (eqb (length (x ∷ y ∷ r)) 14) (n ∷ k ∷ r) (x ∷ y ∷ r)) over
-    ∙ taken _ _ (eq-eqb (length (x ∷ y ∷ b)) 14 (omega arith))
 
 -- a place, counted from the part's first byte
 from_start : (n : ℕ) → 2 + n ≡ suc (suc n)
 from_start n = omega arith
 
--- a part spelled out
-front_at : (h f : ℕ) (p : List ℕ) → f < 12 → eqb h 0 ≡ false → get_or (h ∷ f ∷ p) (2 + f) 0 ≡ front (fifo_of (h ∷ f ∷ p))
-unfolding front is_empty fifo_of pick
-front_at h f p k e = rw (e, from_start f, get_or-take 12 p f 0 k)
+-- the oldest byte
 
-pub front_in : (l : List ℕ) → length l ≡ 14 → get_or l 1 0 < 12 → eqb (get_or l 0 0) 0 ≡ false
-    → get_or l (2 + get_or l 1 0) 0 ≡ front (fifo_of l)
-front_in [] n k e = absurd (omega arith)
-front_in (h ∷ []) n k e = absurd (omega arith)
-front_in (h ∷ f ∷ p) n k e = front_at h f p k e
-
--- the oldest byte has none of the twelve places
-beyond_at : (h f : ℕ) (p : List ℕ) → length p ≡ 12 → 12 ≤ f → 0 ≡ front (fifo_of (h ∷ f ∷ p))
+pub front_in : (l : List ℕ) → length l ≡ 14 → get_or l 0 0 ≢ 0 → get_or l 1 0 < 12 → front (fifo_of l) ≡ get_or l (2 + get_or l 1 0) 0
 unfolding front is_empty fifo_of
-beyond_at h f p n k =
-    sym (by_pick (λ (x : ℕ). x ≡ 0) (eqb h 0) refl (get_or-eq_default (take 12 p) 0 (omega (arith, length-take-le 12 p (omega arith)))))
+front_in l n e k =
+    passed_over _ _ (ne_eqb _ _ e) ∙ get_or-take 12 (drop 2 l) (get_or l 1 0) 0 k ∙ get_or-drop 2 l (get_or l 1 0) 0
 
-pub beyond_in : (l : List ℕ) → length l ≡ 14 → 12 ≤ get_or l 1 0 → 0 ≡ front (fifo_of l)
-beyond_in [] n k = absurd (omega arith)
-beyond_in (h ∷ []) n k = absurd (omega arith)
-beyond_in (h ∷ f ∷ p) n k = beyond_at h f p (omega arith) k
+-- it has none of the twelve places
+pub beyond_in : (l : List ℕ) → length l ≡ 14 → 12 ≤ get_or l 1 0 → front (fifo_of l) ≡ 0
+unfolding front is_empty fifo_of
+beyond_in l n k =
+    by_pick (λ (x : ℕ). x ≡ 0) (eqb (get_or l 0 0) 0) refl
+    (get_or-eq_default (take 12 (drop 2 l)) 0 (omega (arith, length-take-le 12 (drop 2 l) (rw length-drop (omega arith)))))
 
-pub none_in : (l : List ℕ) → eqb (get_or l 0 0) 0 ≡ true → 0 ≡ front (fifo_of l)
-unfolding front is_empty fifo_of pick
-none_in l e = rw e
+pub none_in : (l : List ℕ) → get_or l 0 0 ≡ 0 → front (fifo_of l) ≡ 0
+unfolding front is_empty fifo_of
+none_in l e = taken _ _ (eq-eqb _ _ e)
 
-pub popped_in : (l : List ℕ) → length l ≡ 14 → eqb (get_or l 0 0) 0 ≡ false
-    → set (set l 1 (round (get_or l 1 0 + 1))) 0 (get_or l 0 0 - 1) ≡ fifo_bytes (pop (fifo_of l))
+-- one byte less, and one more
+
+abbrev pub one_less : List ℕ → List ℕ
+one_less l = set l 0 (get_or l 0 0 - 1)
+
+abbrev pub one_more : List ℕ → List ℕ
+one_more l = set l 0 (get_or l 0 0 + 1)
+
+pub popped_in : (l : List ℕ) → length l ≡ 14 → get_or l 0 0 ≢ 0
+    → fifo_bytes (pop (fifo_of l)) ≡ one_less (set l 1 (round (get_or l 1 0 + 1)))
 unfolding pop is_empty fifo_of fifo_bytes pick
 popped_in [] n e = absurd (omega arith)
 popped_in (h ∷ []) n e = absurd (omega arith)
-popped_in (h ∷ f ∷ p) n e = rw (e, take_all 12 p (omega arith))
+popped_in (h ∷ f ∷ p) n e = rw (ne_eqb h 0 e, take_all 12 p (omega arith))
 
-pub empty_in : (l : List ℕ) → length l ≡ 14 → eqb (get_or l 0 0) 0 ≡ true → l ≡ fifo_bytes (pop (fifo_of l))
-unfolding pop is_empty pick
-empty_in l n e =
-    let same : pop (fifo_of l) ≡ fifo_of l = unfold fifo_of in rw e in
-    sym (ap fifo_bytes same ∙ bytes_back l n)
+pub empty_in : (l : List ℕ) → length l ≡ 14 → get_or l 0 0 ≡ 0 → fifo_bytes (pop (fifo_of l)) ≡ l
+unfolding pop is_empty fifo_of
+empty_in l n e = ap fifo_bytes (taken _ _ (eq-eqb _ _ e)) ∙ bytes_back l n
 
-pub pushed_in : (b : ℕ) (l : List ℕ) → length l ≡ 14 → ltb (get_or l 0 0) 12 ≡ true
-    → set (set l (2 + round (get_or l 1 0 + get_or l 0 0)) b) 0 (get_or l 0 0 + 1) ≡ fifo_bytes (push b (fifo_of l))
+pub pushed_in : (b : ℕ) (l : List ℕ) → length l ≡ 14 → get_or l 0 0 < 12
+    → fifo_bytes (push b (fifo_of l)) ≡ one_more (set l (2 + round (get_or l 1 0 + get_or l 0 0)) b)
 unfolding push has_room place_behind fifo_of fifo_bytes pick
 pushed_in b [] n e = absurd (omega arith)
 pushed_in b (h ∷ []) n e = absurd (omega arith)
-pushed_in b (h ∷ f ∷ p) n e = rw (e, from_start (round (f + h)), take_all 12 p (omega arith))
+pushed_in b (h ∷ f ∷ p) n e = rw (lt-ltb h 12 e, from_start (round (f + h)), take_all 12 p (omega arith))
 
-pub full_in : (b : ℕ) (l : List ℕ) → length l ≡ 14 → ltb (get_or l 0 0) 12 ≡ false → l ≡ fifo_bytes (push b (fifo_of l))
-unfolding push has_room pick
-full_in b l n e =
-    let same : push b (fifo_of l) ≡ fifo_of l = unfold fifo_of in rw e in
-    sym (ap fifo_bytes same ∙ bytes_back l n)
+pub full_in : (b : ℕ) (l : List ℕ) → length l ≡ 14 → 12 ≤ get_or l 0 0 → fifo_bytes (push b (fifo_of l)) ≡ l
+unfolding push has_room fifo_of
+full_in b l n e = ap fifo_bytes (passed_over _ _ (le-ltb _ _ e)) ∙ bytes_back l n
 
 pub ends_in : (q : Fifo) (l : List ℕ) → length l ≡ 14
-    → set (set (set l (2 + round (get_or l 1 0 + get_or l 0 0)) (get_or q.bytes (round (get_or l 1 0 + get_or l 0 0)) 0)) 0 q.held) 1 q.first ≡ ends_over q l
+    → ends_over q l ≡ set (set (set l (2 + round (get_or l 1 0 + get_or l 0 0)) (get_or q.bytes (round (get_or l 1 0 + get_or l 0 0)) 0)) 0 q.held) 1 q.first
 unfolding ends_over place_behind fifo_of
 ends_in q [] n = absurd (omega arith)
 ends_in q (h ∷ []) n = absurd (omega arith)
@@ -114,3 +86,10 @@ unfolding fifo_bytes
 ends_put [] n k e = absurd (omega arith)
 ends_put (h ∷ []) n k e = absurd (omega arith)
 ends_put (h ∷ f ∷ p) n k e = rw (take_all 12 p (omega arith))
+
+-- the number that waits alone
+pub end_put : (l : List ℕ) (k n : ℕ) → length l ≡ 14 → get_or l 1 0 ≡ k → set l 0 n ≡ fifo_bytes (under l k n)
+unfolding fifo_bytes
+end_put [] k n e o = absurd (omega arith)
+end_put (h ∷ []) k n e o = absurd (omega arith)
+end_put (h ∷ f ∷ p) k n e o = rw (o, take_all 12 p (omega arith))

@@ -13,40 +13,34 @@ use chip::Fifo;
 // The place of a number: the twelve go round.
 #[tactic(auto, unfolding(chip::specs::Fifo::round, chip::specs::Choice::pick))]
 fn round(n: u32) -> u8
-    ensures { result ≡ round n }
+    ensures place { result ≡ round n }
+    ensures within { result < 12 }
 {
     if n < 12 {
-        return n as u8;
+        n as u8
+    } else if n < 24 {
+        (n - 12) as u8
+    } else {
+        0
     }
-    if n < 24 {
-        return (n - 12) as u8;
-    }
-    0
-}
-
-// The place after another.
-pub(crate) fn next(place: u8) -> u8
-    ensures { result ≡ round (place + 1) }
-{
-    round((place as u32) + 1)
-}
-
-// The same, of one of the twelve.
-pub(crate) fn after(place: u8) -> u8
-    requires { place < 12 }
-    ensures { result ≡ round (place + 1) }
-{
-    if place < 11 {
-        return place + 1;
-    }
-    0
 }
 
 // The place behind held bytes, of which the oldest has the place first.
 pub(crate) fn behind(first: u8, held: u8) -> u8
-    ensures { result ≡ round (first + held) }
+    ensures place { result ≡ round (first + held) }
+    ensures within { result < 12 }
 {
-    round((first as u32) + (held as u32))
+    round(u32::from(first) + u32::from(held))
+}
+
+// The place after one of the twelve: `behind(place, 1)` with one test fewer, for the loops.
+#[tactic(auto, unfolding(chip::specs::Fifo::round, chip::specs::Choice::pick))]
+pub(crate) fn next(place: u8) -> u8
+    requires { place < 12 }
+    ensures place { result ≡ round (place + 1) }
+    ensures within { result < 12 }
+{
+    if place < 11 { place + 1 } else { 0 }
 }
 
 // Nothing waits.
@@ -54,7 +48,7 @@ pub fn empty() -> Fifo
     ensures { result ≡ empty }
 {
     Fifo {
-        bytes: [0u8; 12],
+        bytes: [0; 12],
         first: 0,
         held: 0,
     }
@@ -64,11 +58,10 @@ pub fn empty() -> Fifo
 pub fn emptied(q: Fifo) -> Fifo
     ensures { result ≡ emptied q }
 {
-    let bytes = q.bytes;
     Fifo {
-        bytes,
         first: 0,
         held: 0,
+        ..q
     }
 }
 
@@ -90,10 +83,7 @@ pub fn is_empty(q: Fifo) -> bool
 pub fn has_byte(q: Fifo) -> bool
     ensures { result ≡ not (is_empty q) }
 {
-    if is_empty(q) {
-        return false;
-    }
-    true
+    !is_empty(q)
 }
 
 #[tactic(auto, unfolding(chip::specs::Fifo::has_room))]
@@ -108,30 +98,23 @@ pub fn has_room(q: Fifo) -> bool
 pub fn front(q: Fifo) -> u8
     ensures { result ≡ front q }
 {
-    if q.held == 0 {
-        return 0;
+    match q.bytes.get(q.first as usize) {
+        Some(oldest) if q.held != 0 => *oldest,
+        _ => 0,
     }
-    if q.first < 12 {
-        let at = q.first as usize;
-        return q.bytes[at];
-    }
-    0
 }
 
 #[tactic(auto, unfolding(chip::specs::Fifo::pop, chip::specs::Choice::pick, chip::specs::Fifo::is_empty))]
 pub fn pop(q: Fifo) -> Fifo
     ensures { result ≡ pop q }
 {
-    let held = q.held;
-    if held == 0 {
+    if q.held == 0 {
         return q;
     }
-    let first = next(q.first);
-    let bytes = q.bytes;
     Fifo {
-        bytes,
-        first,
-        held: held - 1,
+        first: behind(q.first, 1),
+        held: q.held - 1,
+        ..q
     }
 }
 
@@ -139,16 +122,11 @@ pub fn pop(q: Fifo) -> Fifo
 pub fn push(b: u8, q: Fifo) -> Fifo
     ensures { result ≡ push b q }
 {
-    let held = q.held;
-    if held < 12 {
-        let at = behind(q.first, held) as usize;
-        let mut bytes = q.bytes;
-        bytes[at] = b;
-        return Fifo {
-            bytes,
-            first: q.first,
-            held: held + 1,
-        };
+    let mut more = q;
+    if q.held < 12 {
+        let at = behind(q.first, q.held) as usize;
+        more.bytes[at] = b;
+        more.held += 1;
     }
-    q
+    more
 }

@@ -1,15 +1,16 @@
--- `fifo::bulk::drain`: its loop goes as `drained`. What moved waited, so its number fits.
-use Rattle.std.proofs.Common.{ℕ, List, length, ◌≡◌, ◌≢◌, ◌+◌, ◌≤◌, ◌<◌, true, false, refl, ap, ◌∙◌, arith, eq-eqb, ne_eqb}
-use lib.Seq.{drop-cons}
-use Rattle.chip.specs.Fifo.{waits, is_empty}
+-- `fifo::bulk::drain`: its loop goes as `drained`.
+use Rattle.std.proofs.Common.{ℕ, List, length, get_or, ◌≡◌, ◌≢◌, ◌≤◌, ◌<◌, true, false, refl, sym, ◌∙◌, arith, eq-eqb, ne_eqb}
+use lib.Seq.{drop-cons, set-get_or}
+use Rattle.chip.specs.Fifo.{is_empty}
 use Rattle.chip.specs.declared.Fifo.{Fifo}
-use Rattle.chip.proofs.FifoLaws.{round_below}
-use Rattle.fifo.specs.Bulk.{Bulk, drained}
-use Rattle.fifo.proofs.BulkLaws.{drained_none, drained_more, drained_most}
-use Rattle.fifo.proofs.Going.{Going, Ended, turn, over, full}
-use Rattle.fifo.proofs.Places.{under}
-use Rattle.fifo.proofs.Stored.{run_stored, some_front, turned, too_many, no_place, other_length}
+use Rattle.fifo.specs.Bulk.{drained}
+use Rattle.fifo.specs.Part.{is_part}
+use Rattle.fifo.proofs.BulkLaws.{drained_none, drained_more}
+use Rattle.fifo.proofs.Going.{Going, Ended, start, turn, over, full}
+use Rattle.fifo.proofs.Places.{under, ends_put}
+use Rattle.fifo.proofs.Stored.{run_stored, some_front, turned, none_moved, part_long, part_place}
 use Rattle.fifo.proofs.bulk.drain.Goals as goal
+use Rattle.fifo.proofs.bulk.drain.Goals.{else-loop-byte-test, then-loop-byte-test+then-held-eq0}
 
 none : (p : List ℕ) (k n : ℕ) → n ≡ 0 → is_empty (under p k n) ≡ true
 unfolding is_empty
@@ -27,61 +28,45 @@ ended : (l d : List ℕ) (q t : Fifo) (i : ℕ) → Going drained l q d t i → 
 unfolding drained
 ended l d q t i g e = over g (full drained d t i refl e)
 
-fits : (l d : List ℕ) (q t : Fifo) (i : ℕ) → Ended drained l q d t i → q.held ≤ 12 → i < 256
-unfolding waits
-fits l d q t i e h =
-    let m = ap (λ (r : Bulk). r.moved) e in
-    let w = drained_most l q in
-    omega arith
+pub returns-then-not-is_fifo : goal.returns-then-not-is_fifo
+returns-then-not-is_fifo c = none_moved drained _ _ (sym c.is_fifo.ensures ∙ c.if-not-is_fifo.true)
 
-pub returns-then-held-gt12 : goal.returns-then-held-gt12
-returns-then-held-gt12 c = too_many drained _ _ c.if-held-gt12.true
+pub loop-byte-init : goal.loop-byte-init
+loop-byte-init c = record {
+  place = part_place c.args.part.now (sym c.is_fifo.ensures ∙ c.if-not-is_fifo.false);
+  number = omega arith;
+  going = start drained _ _;
+}
 
-pub returns-then-first-gt11 : goal.returns-then-first-gt11
-returns-then-first-gt11 c = no_place drained _ _ c.if-first-gt11.true
-
-pub overflow_cast-result : goal.overflow_cast-result
-overflow_cast-result c =
-    let e = emptied _ _ _ _ _ c.loop-i.invariant.going (none c.loop-i.part c.loop-i.first c.loop-i.held c.if-held-eq0.true) in
-    let b : c.loop-i.i < 256 = fits _ _ _ _ _ e c.if-held-gt12.false in
-    omega arith
-
-pub returns-then-held-eq0 : goal.returns-then-held-eq0
-returns-then-held-eq0 c =
-    let h = c.if-part-eq-LENGTH.true in
-    run_stored drained c.args.part.now _ _ c.loop-i.part _ _ _ _ h (ap length c.loop-i.invariant.same ∙ h)
-    c.if-held-gt12.false c.if-first-gt11.false
-    (emptied _ _ _ _ _ c.loop-i.invariant.going (none c.loop-i.part c.loop-i.first c.loop-i.held c.if-held-eq0.true))
-    c.set_ends.ensures
-
-pub loop-i-preserved : goal.loop-i-preserved
-loop-i-preserved c =
-    let p = c.loop-i.part in
-    let f = c.loop-i.first in
-    let n = c.loop-i.held in
-    let h = c.loop-i-test.true in
+pub loop-byte-preserved : goal.loop-byte-preserved
+loop-byte-preserved c =
+    let p = c.args.part.now in
+    let f = c.loop-byte.first in
+    let n = c.loop-byte.held in
     let e = some p f n c.if-held-eq0.false in
-    let byte = some_front p f n e c.loop-i.invariant.place in
-    let then = turned p f n e in
+    let h : c.loop-byte.byte-index < length c.loop-byte.out = omega (arith, c.loop-byte-test.true, c.loop-byte.auto.out) in
     record {
-      same = c.loop-i.invariant.same;
-      place = omega (arith, c.next-first.ensures, round_below (f + 1));
-      going = turn c.loop-i.invariant.going _ _ h
-          (rw (drop-cons c.loop-i.out c.loop-i.i 0 h, byte, c.next-first.ensures, ← then) (drained_more _ _ _ e));
+      place = c.next-first.ensures.within;
+      number = omega (arith, c.loop-byte.invariant.number, c.if-held-eq0.false);
+      going = turn c.loop-byte.invariant.going _ _ h
+          (rw (
+            drop-cons c.loop-byte.out c.loop-byte.byte-index 0 h,
+            some_front p f n e c.loop-byte.invariant.place,
+            c.next-first.ensures.place,
+            ← (turned p f n e),
+          ) (drained_more _ _ _ e));
     }
 
-pub overflow_cast-result-then-part-eq-LENGTH : goal.overflow_cast-result-then-part-eq-LENGTH
-overflow_cast-result-then-part-eq-LENGTH c =
-    let e = ended _ _ _ _ _ c.loop-i.invariant.going c.loop-i-test.false in
-    let b : c.loop-i.i < 256 = fits _ _ _ _ _ e c.if-held-gt12.false in
-    omega arith
-
-pub returns-then-part-eq-LENGTH : goal.returns-then-part-eq-LENGTH
-returns-then-part-eq-LENGTH c =
-    let h = c.if-part-eq-LENGTH.true in
-    run_stored drained c.args.part.now _ _ c.loop-i.part _ _ _ _ h (ap length c.loop-i.invariant.same ∙ h)
-    c.if-held-gt12.false c.if-first-gt11.false
-    (ended _ _ _ _ _ c.loop-i.invariant.going c.loop-i-test.false) c.set_ends-then-part-eq-LENGTH.ensures
-
 pub returns : goal.returns
-returns c = other_length drained _ _ c.if-part-eq-LENGTH.false
+returns c =
+    let p = c.args.part.now in
+    let h : is_part p ≡ true = sym c.is_fifo.ensures ∙ c.if-not-is_fifo.false in
+    let f = c.loop-byte.first in
+    let n = c.loop-byte.held in
+    let g = c.loop-byte.invariant.going in
+    let e : Ended drained c.args.out.now (under p (get_or p 1 0) (get_or p 0 0)) c.loop-byte-test.out (under p f n) c.loop-byte.byte-index =
+    elim c.loop-byte-test.branch [
+      | else-loop-byte-test w ↦ rw w.out-is (ended _ _ _ _ _ g (omega (arith, w.loop-byte-test.false, c.loop-byte.auto.out)))
+      | then-loop-byte-test+then-held-eq0 w ↦ rw (w.out-is, set-get_or) (emptied _ _ _ _ _ g (none p f n w.if-held-eq0.true))
+    ] in
+    run_stored drained p _ _ p f n _ _ _ h e (omega (arith, c.loop-byte.invariant.number)) (ends_put p n f (part_long p h))

@@ -1,16 +1,18 @@
--- `fifo::bulk::fill`: its loop goes as `filled`. No more moved than there was room for, so its number fits.
+-- `fifo::bulk::fill`: its loop goes as `filled`.
 use Rattle.std.proofs.Common.{ℕ, List, length, set, get_or, length-set, ◌≡◌, ◌+◌, ◌≤◌, ◌<◌, true, false, refl, ap, sym, ◌∙◌, arith, ltb, ltb-true}
+use Rattle.std.proofs.lemmas.List.{get_or-set_other}
 use lib.Seq.{drop-cons, set-get_or}
 use Rattle.chip.specs.Choice.{both}
 use Rattle.chip.specs.Fifo.{waits, has_room, round}
 use Rattle.chip.specs.declared.Fifo.{Fifo}
-use Rattle.chip.proofs.FifoLaws.{round_below}
-use Rattle.fifo.specs.Bulk.{Bulk, filled, takes}
-use Rattle.fifo.proofs.BulkLaws.{filled_none, filled_more, filled_most, takes_room}
-use Rattle.fifo.proofs.Going.{Going, Ended, turn, over, full}
-use Rattle.fifo.proofs.Places.{under}
-use Rattle.fifo.proofs.Stored.{number_and_part, run_stored, placed, place_next, too_many, no_place, other_length}
+use Rattle.fifo.specs.Bulk.{filled, takes}
+use Rattle.fifo.specs.Part.{is_part}
+use Rattle.fifo.proofs.BulkLaws.{filled_none, filled_more, takes_room}
+use Rattle.fifo.proofs.Going.{Going, Ended, start, turn, over, full}
+use Rattle.fifo.proofs.Places.{under, end_put}
+use Rattle.fifo.proofs.Stored.{number_and_part, run_stored, placed, place_next, none_moved, part_long, part_place}
 use Rattle.fifo.proofs.bulk.fill.Goals as goal
+use Rattle.fifo.proofs.bulk.fill.Goals.{else-loop-byte-test, then-loop-byte-test+then-not-takes}
 
 takes_is : (n : ℕ) (p : List ℕ) (k m : ℕ) → both (ltb m n) (ltb m 12) ≡ takes n (under p k m)
 unfolding takes waits has_room
@@ -29,80 +31,64 @@ ended : (x : ℕ) (l d : List ℕ) (q t : Fifo) (j : ℕ) → Going (filled x) l
 unfolding filled
 ended x l d q t j g e = over g (full (filled x) d t j refl e)
 
-fits : (x : ℕ) (l d : List ℕ) (q t : Fifo) (j : ℕ) → Ended (filled x) l q d t j → j < 256
-fits x l d q t j e =
-    let m = ap (λ (r : Bulk). r.moved) e in
-    let w = filled_most x l q in
-    omega arith
+pub returns-then-not-is_fifo : goal.returns-then-not-is_fifo
+returns-then-not-is_fifo c = number_and_part (none_moved (filled c.args.n) _ c.args.from.now (sym c.is_fifo.ensures ∙ c.if-not-is_fifo.true))
 
-in_reach : (at k h : ℕ) → at ≡ round (k + h) → at < 12
-in_reach at k h e = omega (arith, round_below (k + h))
-
-pub returns-then-held-gt12 : goal.returns-then-held-gt12
-returns-then-held-gt12 c = number_and_part (too_many (filled c.args.n) _ c.args.from.now c.if-held-gt12.true)
-
-pub returns-then-first-gt11 : goal.returns-then-first-gt11
-returns-then-first-gt11 c = number_and_part (no_place (filled c.args.n) _ c.args.from.now c.if-first-gt11.true)
-
-pub bounds-part-place : goal.bounds-part-place
-bounds-part-place c = omega (arith, in_reach _ _ _ c.loop-j.invariant.behind)
-
-pub after-at-requires : goal.after-at-requires
-after-at-requires c = in_reach _ _ _ c.loop-j.invariant.behind
+pub loop-byte-init : goal.loop-byte-init
+loop-byte-init c = record {
+  long = part_long c.args.part.now (sym c.is_fifo.ensures ∙ c.if-not-is_fifo.false);
+  oldest = refl;
+  place = c.behind-at.ensures.within;
+  behind = c.behind-at.ensures.place;
+  number = omega arith;
+  going = start (filled c.args.n) _ _;
+}
 
 pub overflow_add-held : goal.overflow_add-held
 overflow_add-held c =
-    let e = sym (c.if-takes.ensures ∙ takes_is c.args.n c.loop-j.part 0 c.loop-j.held) in
-    let b = below c.args.n c.loop-j.part 0 c.loop-j.held e in
-    omega arith
+    omega (
+      arith,
+      below c.args.n c.loop-byte.part 0 c.loop-byte.held
+          (sym (takes_is c.args.n c.loop-byte.part 0 c.loop-byte.held) ∙ sym c.takes.ensures ∙ c.if-not-takes.false),
+    )
 
-pub loop-j-preserved : goal.loop-j-preserved
-loop-j-preserved c =
-    let p = c.loop-j.part in
-    let m = c.loop-j.held in
-    let j = c.loop-j.j in
+pub loop-byte-preserved : goal.loop-byte-preserved
+loop-byte-preserved c =
+    let p = c.loop-byte.part in
+    let m = c.loop-byte.held in
+    let i = c.loop-byte.byte-index in
     let k = get_or c.args.part.now 1 0 in
     let from = c.args.from.now in
-    let v = get_or from j 0 in
-    let h = c.loop-j-test.true in
-    let e = sym (c.if-takes.ensures ∙ takes_is c.args.n p k m) in
+    let v = get_or from i 0 in
+    let h = c.loop-byte-test.true in
+    let e : takes c.args.n (under p k m) ≡ true = sym (takes_is c.args.n p k m) ∙ sym c.takes.ensures ∙ c.if-not-takes.false in
     let then = placed p k m v (takes_room _ _ e) in
+    let w = part_place c.args.part.now (sym c.is_fifo.ensures ∙ c.if-not-is_fifo.false) in
     record {
-      long = length-set p _ v ∙ c.loop-j.invariant.long;
-      behind = c.after-at.ensures ∙ ap (λ (y : ℕ). round (y + 1)) c.loop-j.invariant.behind
-          ∙ place_next k m (omega (arith, c.if-first-gt11.false)) (below c.args.n p k m e);
-      going = rw c.loop-j.invariant.behind
-          (rw set-get_or at (turn c.loop-j.invariant.going (under (set p (2 + round (k + m)) v) k (m + 1)) v h
-          (rw (drop-cons from j 0 h, ← then) (filled_more _ _ _ _ e))));
+      long = length-set p _ v ∙ c.loop-byte.invariant.long;
+      oldest = get_or-set_other p (2 + c.loop-byte.at) 1 v 0 (omega arith) ∙ c.loop-byte.invariant.oldest;
+      place = c.next-at.ensures.within;
+      behind = c.next-at.ensures.place ∙ ap (λ (y : ℕ). round (y + 1)) c.loop-byte.invariant.behind
+          ∙ place_next k m w (below c.args.n p k m e);
+      number = omega (arith, c.loop-byte.invariant.number);
+      going = rw c.loop-byte.invariant.behind
+          (rw set-get_or at (turn c.loop-byte.invariant.going (under (set p (2 + round (k + m)) v) k (m + 1)) v h
+          (rw (drop-cons from i 0 h, ← then) (filled_more _ _ _ _ e))));
     }
 
-pub overflow_cast-result : goal.overflow_cast-result
-overflow_cast-result c =
-    let no = sym (c.if-takes.ensures ∙ takes_is c.args.n c.loop-j.part (get_or c.args.part.now 1 0) c.loop-j.held) in
-    let b : c.loop-j.j < 256 = fits _ _ _ _ _ _ (stopped _ _ _ _ _ _ c.loop-j.invariant.going no) in
-    omega arith
-
-pub returns-else-takes : goal.returns-else-takes
-returns-else-takes c =
-    let h = c.if-part-eq-LENGTH.true in
-    let no = sym (c.if-takes.ensures ∙ takes_is c.args.n c.loop-j.part (get_or c.args.part.now 1 0) c.loop-j.held) in
-    number_and_part
-    (run_stored (filled c.args.n) c.args.part.now c.args.from.now _ c.loop-j.part _ _ _ _ h c.loop-j.invariant.long
-    c.if-held-gt12.false c.if-first-gt11.false
-    (stopped _ _ _ _ _ _ c.loop-j.invariant.going no) c.set_ends.ensures)
-
-pub overflow_cast-result-then-part-eq-LENGTH : goal.overflow_cast-result-then-part-eq-LENGTH
-overflow_cast-result-then-part-eq-LENGTH c =
-    let b : c.loop-j.j < 256 = fits _ _ _ _ _ _ (ended _ _ _ _ _ _ c.loop-j.invariant.going c.loop-j-test.false) in
-    omega arith
-
-pub returns-then-part-eq-LENGTH : goal.returns-then-part-eq-LENGTH
-returns-then-part-eq-LENGTH c =
-    let h = c.if-part-eq-LENGTH.true in
-    number_and_part
-    (run_stored (filled c.args.n) c.args.part.now c.args.from.now _ c.loop-j.part _ _ _ _ h c.loop-j.invariant.long
-    c.if-held-gt12.false c.if-first-gt11.false
-    (ended _ _ _ _ _ _ c.loop-j.invariant.going c.loop-j-test.false) c.set_ends-then-part-eq-LENGTH.ensures)
-
 pub returns : goal.returns
-returns c = number_and_part (other_length (filled c.args.n) _ c.args.from.now c.if-part-eq-LENGTH.false)
+returns c =
+    let p = c.args.part.now in
+    let k = get_or p 1 0 in
+    let h : is_part p ≡ true = sym c.is_fifo.ensures ∙ c.if-not-is_fifo.false in
+    let r = c.loop-byte.part in
+    let m = c.loop-byte.held in
+    let g = c.loop-byte.invariant.going in
+    let e : Ended (filled c.args.n) c.args.from.now (under p k (get_or p 0 0)) c.args.from.now (under r k m) c.loop-byte.byte-index =
+    elim c.loop-byte-test.branch [
+      | else-loop-byte-test w ↦ ended _ _ _ _ _ _ g w.loop-byte-test.false
+      | then-loop-byte-test+then-not-takes w ↦ stopped _ _ _ _ _ _ g (sym (takes_is c.args.n r k m) ∙ sym w.takes.ensures ∙ w.if-not-takes.true)
+    ] in
+    number_and_part
+    (run_stored (filled c.args.n) p _ _ r k m _ _ _ h e (omega (arith, c.loop-byte.invariant.number))
+    (end_put r k m c.loop-byte.invariant.long c.loop-byte.invariant.oldest))
