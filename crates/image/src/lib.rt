@@ -2,7 +2,6 @@
 #![tactic(auto)]
 
 mod cases; // cases.rt: the bytes that stand for cases
-mod copy; // copy.rt: several bytes, copied
 mod parts; // parts.rt: the parts of a state, out of an image and into it
 pub mod store; // store.rt: one field's change, made in the image itself
 pub mod waiting; // waiting.rt: the FIFO's bytes, moved in the image itself
@@ -21,13 +20,6 @@ use fifo::part;
 use parts::{put_image, put_others, state_of};
 use state::{activity, connections, fresh};
 
-// What bytes say: whether they are a state's image, and the state; the fresh one where they are none.
-#[derive(Drop)]
-pub struct Reading {
-    pub ok: bool,
-    pub state: State,
-}
-
 // How many bytes an image has.
 pub const LENGTH: usize = 54;
 
@@ -40,12 +32,12 @@ fn go_with(p: u8, k: u8, n: u8) -> bool
     ensures { result ≡ go_with p k n }
 {
     if p == 0 {
-        return k == 0;
+        k == 0
+    } else if n == 0 {
+        (p == 1) & (k == 0)
+    } else {
+        (p == 2) | ((p == 3) & (k == 0))
     }
-    if n == 0 {
-        return (p == 1) & (k == 0);
-    }
-    (p == 2) | ((p == 3) & (k == 0))
 }
 
 // The three bytes that say the activity.
@@ -57,12 +49,9 @@ fn is_activity(p: u8, k: u8, n: u8) -> bool
 }
 
 #[tactic(auto, unfolding(chip::specs::Choice::both, chip::specs::Image::is_image))]
-fn has_form(image: &[u8]) -> bool
+fn has_form(image: &[u8; LENGTH]) -> bool
     ensures { result ≡ is_image image.now }
 {
-    if image.len() != LENGTH {
-        return false;
-    }
     // The five flags stand side by side, so that the compiler asks them at once.
     let ranges = (image[26] < 2)
         & (image[27] < 2)
@@ -75,10 +64,7 @@ fn has_form(image: &[u8]) -> bool
         & (image[37] < 9)
         & (image[38] < 8)
         & is_activity(image[28], image[29], image[31]);
-    if ranges {
-        return part::is_fifo(&image[FIFO..LENGTH]);
-    }
-    false
+    ranges && part::is_fifo(&image[FIFO..LENGTH])
 }
 
 // Whether the bytes are a state's image; what then holds of them is specs/IsImage.antt.
@@ -86,22 +72,21 @@ fn has_form(image: &[u8]) -> bool
 pub fn is_image(image: &[u8]) -> bool
     ensures { (result ≡ is_image image.now) × (result ≡ true → IsImage image.now) }
 {
-    if image.len() == LENGTH {
-        return has_form(image);
+    match image.as_array() {
+        Some(image) => has_form(image),
+        None => false,
     }
-    false
 }
 
-#[tactic(auto, unfolding(crate::specs::Read::read_of, chip::specs::Choice::pick))]
-pub fn read(image: &[u8]) -> Reading
+// The state of an image; none of other bytes.
+#[tactic(auto, unfolding(crate::specs::Read::read_of, chip::specs::Image::is_image, chip::specs::Choice::pick, chip::specs::Choice::both))]
+pub fn read(image: &[u8]) -> Option<State>
     ensures { result ≡ read_of image.now }
 {
-    if has_form(image) {
-        let state = state_of(image);
-        return Reading { ok: true, state };
+    match image.as_array() {
+        Some(image) if has_form(image) => Some(state_of(image)),
+        _ => None,
     }
-    let state = fresh::fresh();
-    Reading { ok: false, state }
 }
 
 // The state that bytes say; the fresh one where their length is not an image's. Whether they are an image is not asked.
@@ -109,10 +94,10 @@ pub fn read(image: &[u8]) -> Reading
 pub fn state(image: &[u8]) -> State
     ensures { result ≡ pick (eqb (length image.now) image_length) (state_of image.now) fresh }
 {
-    if image.len() == LENGTH {
-        return state_of(image);
+    match image.as_array() {
+        Some(image) => state_of(image),
+        None => fresh::fresh(),
     }
-    fresh::fresh()
 }
 
 // Bytes of another length than an image's stay as they are.
@@ -120,7 +105,7 @@ pub fn state(image: &[u8]) -> State
 pub fn write(s: State, image: &mut [u8])
     ensures { image.new ≡ pick (eqb (length image.old) image_length) (image_of s) image.old }
 {
-    if image.len() == LENGTH {
+    if let Some(image) = image.as_mut_array() {
         put_image(s, image);
     }
 }
@@ -132,9 +117,8 @@ pub fn write_on(s: State, image: &mut [u8])
         (take fifo_place (image_of s) ++ ends_over s.fifo (drop fifo_place image.old)) image.old }
     ensures goes_on { IsImage image.old → Goes (state_of image.old).fifo s.fifo → image.new ≡ image_of s }
 {
-    let q = s.fifo;
-    if image.len() == LENGTH {
+    if let Some(image) = image.as_mut_array() {
         put_others(s, image);
-        store::ends(q, image);
+        store::ends(s.fifo, image);
     }
 }

@@ -1,10 +1,9 @@
 // The parts of a state, out of an image and into it.
-ghost use Rattle.std.specs.Prelude.{◌≡◌, ◌++◌, ◌+◌, ◌*◌, ◌/◌, ◌%◌, length, take, drop};
+ghost use Rattle.std.specs.Prelude.{◌≡◌, ◌++◌, take, drop};
 ghost use Rattle.std.proofs.lemmas.List.Edits.{sets};
-ghost use Rattle.chip.specs.Image.{fifo_place, image_length, state_of, head_bytes, middle_bytes, image_of};
+ghost use Rattle.chip.specs.Image.{fifo_place, state_of, head_bytes, middle_bytes, image_of};
 
-use crate::cases::{bit_of, direction_byte, direction_of, noted_byte, noted_of};
-use crate::copy::{get, put};
+use crate::cases::{direction_of, noted_byte, noted_of};
 use crate::{FIFO, LENGTH, store};
 use chip::{
     Activity, Descriptor, Fifo, Handshake, Identity, Registers, Seen, Setup, State, Status,
@@ -13,33 +12,12 @@ use chip::{
 use fifo::part;
 use state::{activity, connections};
 
-// The three bytes of a count, high byte first.
-fn count_of(high: u8, middle: u8, low: u8) -> u32
-    ensures { result ≡ high * 65536 + middle * 256 + low }
-{
-    (high as u32) << 16 | (middle as u32) << 8 | (low as u32)
-}
-
-fn middle_byte(x: u32) -> u8
-    ensures { result ≡ x / 256 % 256 }
-{
-    lines::low_byte(x >> 8)
-}
-
-fn high_byte(x: u32) -> u8
-    ensures { result ≡ x / 65536 % 256 }
-{
-    lines::low_byte(x >> 16)
-}
-
 #[tactic(auto, unfolding(chip::specs::Image::state_of))]
-fn registers_of(image: &[u8]) -> Registers
-    requires { length image.now ≡ image_length }
+fn registers_of(image: &[u8; LENGTH]) -> Registers
     ensures { result ≡ (state_of image.now).registers }
 {
-    let mut cdb = [0u8; 12];
-    get(image, 3, &mut cdb);
-    let count = count_of(image[18], image[19], image[20]);
+    let mut cdb = [0; 12];
+    cdb.copy_from_slice(&image[3..15]);
     Registers {
         setup: Setup {
             own: image[0],
@@ -52,15 +30,14 @@ fn registers_of(image: &[u8]) -> Registers
             lun: image[15],
             phase: image[16],
         },
-        count,
+        count: u32::from_be_bytes([0, image[18], image[19], image[20]]),
         destination: image[21],
         source: image[22],
     }
 }
 
 #[tactic(auto, unfolding(chip::specs::Image::state_of))]
-fn status_of(image: &[u8]) -> Status
-    requires { length image.now ≡ image_length }
+fn status_of(image: &[u8; LENGTH]) -> Status
     ensures { result ≡ (state_of image.now).status }
 {
     Status {
@@ -72,48 +49,43 @@ fn status_of(image: &[u8]) -> Status
     }
 }
 
-fn fifo_of(image: &[u8]) -> Fifo
-    requires { length image.now ≡ image_length }
+fn fifo_of(image: &[u8; LENGTH]) -> Fifo
     ensures { result ≡ (state_of image.now).fifo }
 {
     part::get(&image[FIFO..LENGTH])
 }
 
 #[tactic(auto, unfolding(chip::specs::Image::state_of))]
-fn transfer_of(image: &[u8]) -> Transfer
-    requires { length image.now ≡ image_length }
+fn transfer_of(image: &[u8; LENGTH]) -> Transfer
     ensures { result ≡ (state_of image.now).transfer }
 {
-    let direction = direction_of(image[32]);
     Transfer {
-        direction,
+        direction: direction_of(image[32]),
         single: image[33] == 1,
     }
 }
 
 #[tactic(auto, unfolding(chip::specs::Image::state_of))]
-fn wire_of(image: &[u8]) -> Wire
-    requires { length image.now ≡ image_length }
+fn wire_of(image: &[u8; LENGTH]) -> Wire
     ensures { result ≡ (state_of image.now).wire }
 {
-    let connection = connections::connection_of(image[30]);
-    let reported = noted_of(image[36]);
-    let last = noted_of(image[37]);
     Wire {
-        connection,
+        connection: connections::connection_of(image[30]),
         handshake: Handshake {
             atn: image[34] == 1,
             ack: image[35] == 1,
         },
-        seen: Seen { reported, last },
+        seen: Seen {
+            reported: noted_of(image[36]),
+            last: noted_of(image[37]),
+        },
         identity: Identity { number: image[38] },
         elapsed: image[39],
     }
 }
 
 #[tactic(auto, unfolding(chip::specs::Image::state_of))]
-fn activity_of(image: &[u8]) -> Activity
-    requires { length image.now ≡ image_length }
+fn activity_of(image: &[u8; LENGTH]) -> Activity
     ensures { result ≡ (state_of image.now).activity }
 {
     activity::activity_of(image[28], image[29], image[31])
@@ -121,30 +93,22 @@ fn activity_of(image: &[u8]) -> Activity
 
 // The state whose image the bytes are; of bytes that are no image, some state or other.
 #[tactic(auto, unfolding(chip::specs::Image::state_of))]
-pub(crate) fn state_of(image: &[u8]) -> State
-    requires { length image.now ≡ image_length }
+pub(crate) fn state_of(image: &[u8; LENGTH]) -> State
     ensures { result ≡ state_of image.now }
 {
-    let registers = registers_of(image);
-    let status = status_of(image);
-    let fifo = fifo_of(image);
-    let transfer = transfer_of(image);
-    let wire = wire_of(image);
-    let activity = activity_of(image);
     State {
-        registers,
-        status,
-        fifo,
-        transfer,
-        wire,
-        activity,
+        registers: registers_of(image),
+        status: status_of(image),
+        fifo: fifo_of(image),
+        transfer: transfer_of(image),
+        wire: wire_of(image),
+        activity: activity_of(image),
     }
 }
 
 // Bytes 0 to 2 of the image of s.
 #[tactic(auto, unfolding(chip::specs::Image::head_bytes))]
-fn put_head(s: State, image: &mut [u8])
-    requires { length image.old ≡ image_length }
+fn put_head(s: State, image: &mut [u8; LENGTH])
     ensures { image.new ≡ sets image.old 0 (head_bytes s) }
 {
     image[0] = s.registers.setup.own;
@@ -154,68 +118,54 @@ fn put_head(s: State, image: &mut [u8])
 
 // Bytes 15 to 22: the registers after the command bytes.
 #[tactic(auto, unfolding(chip::specs::Image::middle_bytes))]
-fn put_registers(s: State, image: &mut [u8])
-    requires { length image.old ≡ image_length }
+fn put_registers(s: State, image: &mut [u8; LENGTH])
     ensures { image.new ≡ sets image.old 15 (take 8 (middle_bytes s)) }
 {
-    let registers = s.registers;
-    image[15] = registers.descriptor.lun;
-    image[16] = registers.descriptor.phase;
-    image[17] = registers.setup.synchronous;
-    image[18] = high_byte(registers.count);
-    image[19] = middle_byte(registers.count);
-    image[20] = lines::low_byte(registers.count);
-    image[21] = registers.destination;
-    image[22] = registers.source;
+    let [_, high, middle, low] = s.registers.count.to_be_bytes();
+    image[15] = s.registers.descriptor.lun;
+    image[16] = s.registers.descriptor.phase;
+    image[17] = s.registers.setup.synchronous;
+    image[18] = high;
+    image[19] = middle;
+    image[20] = low;
+    image[21] = s.registers.destination;
+    image[22] = s.registers.source;
 }
 
 // Bytes 23 to 29: what the host sees beside them.
 #[tactic(auto, unfolding(chip::specs::Image::middle_bytes))]
-fn put_status(s: State, image: &mut [u8])
-    requires { length image.old ≡ image_length }
+fn put_status(s: State, image: &mut [u8; LENGTH])
     ensures { image.new ≡ sets image.old 23 (take 7 (drop 8 (middle_bytes s))) }
 {
-    let status = s.status;
-    let a = s.activity;
-    image[23] = status.code;
-    image[24] = status.command;
-    image[25] = status.pointer;
-    image[26] = bit_of(status.lci);
-    image[27] = bit_of(status.pe);
-    image[28] = activity::pending_number(a);
-    image[29] = activity::code_to_come(a);
+    image[23] = s.status.code;
+    image[24] = s.status.command;
+    image[25] = s.status.pointer;
+    image[26] = s.status.lci as u8;
+    image[27] = s.status.pe as u8;
+    image[28] = activity::pending_number(s.activity);
+    image[29] = activity::code_to_come(s.activity);
 }
 
 // Bytes 30 to 39: the bus and the running command.
 #[tactic(auto, unfolding(chip::specs::Image::middle_bytes))]
-fn put_rest(s: State, image: &mut [u8])
-    requires { length image.old ≡ image_length }
+fn put_rest(s: State, image: &mut [u8; LENGTH])
     ensures { image.new ≡ sets image.old 30 (drop 15 (middle_bytes s)) }
 {
-    let transfer = s.transfer;
-    let wire = s.wire;
-    let connection = wire.connection;
-    let a = s.activity;
-    let direction = transfer.direction;
-    let seen = wire.seen;
-    let reported = seen.reported;
-    let last = seen.last;
-    image[30] = connections::connection_number(connection);
-    image[31] = activity::running_number(a);
-    image[32] = direction_byte(direction);
-    image[33] = bit_of(transfer.single);
-    image[34] = bit_of(wire.handshake.atn);
-    image[35] = bit_of(wire.handshake.ack);
-    image[36] = noted_byte(reported);
-    image[37] = noted_byte(last);
-    image[38] = wire.identity.number;
-    image[39] = wire.elapsed;
+    image[30] = connections::connection_number(s.wire.connection);
+    image[31] = activity::running_number(s.activity);
+    image[32] = s.transfer.direction as u8;
+    image[33] = s.transfer.single as u8;
+    image[34] = s.wire.handshake.atn as u8;
+    image[35] = s.wire.handshake.ack as u8;
+    image[36] = noted_byte(s.wire.seen.reported);
+    image[37] = noted_byte(s.wire.seen.last);
+    image[38] = s.wire.identity.number;
+    image[39] = s.wire.elapsed;
 }
 
 // Bytes 15 to 39.
 #[tactic(auto, unfolding(chip::specs::Image::middle_bytes))]
-fn put_middle(s: State, image: &mut [u8])
-    requires { length image.old ≡ image_length }
+fn put_middle(s: State, image: &mut [u8; LENGTH])
     ensures { image.new ≡ sets image.old 15 (middle_bytes s) }
 {
     put_registers(s, image);
@@ -224,23 +174,17 @@ fn put_middle(s: State, image: &mut [u8])
 }
 
 // Bytes 0 to 39: all but the FIFO's.
-pub(crate) fn put_others(s: State, image: &mut [u8])
-    requires { length image.old ≡ image_length }
+pub(crate) fn put_others(s: State, image: &mut [u8; LENGTH])
     ensures { image.new ≡ take fifo_place (image_of s) ++ drop fifo_place image.old }
 {
-    let registers = s.registers;
-    let descriptor = registers.descriptor;
-    let cdb = descriptor.cdb;
     put_head(s, image);
-    put(&cdb, 3, image);
+    image[3..15].copy_from_slice(&s.registers.descriptor.cdb);
     put_middle(s, image);
 }
 
-pub(crate) fn put_image(s: State, image: &mut [u8])
-    requires { length image.old ≡ image_length }
+pub(crate) fn put_image(s: State, image: &mut [u8; LENGTH])
     ensures { image.new ≡ image_of s }
 {
-    let q = s.fifo;
     put_others(s, image);
-    store::fifo(q, image);
+    store::fifo(s.fifo, image);
 }

@@ -1,7 +1,7 @@
 // One field's change, made in the image itself: only that field's bytes are stored. chip's proofs/ImageFields.antt and
 // ImageRegisters.antt say that such a store is the image of the state with the field changed. Bytes of another length than an image's
 // stay as they are.
-ghost use Rattle.std.specs.Prelude.{◌≡◌, ◌++◌, eqb, ltb, length, set, take, drop};
+ghost use Rattle.std.specs.Prelude.{◌≡◌, ◌++◌, ◌<◌, eqb, ltb, length, set, take, drop};
 ghost use Rattle.chip.specs.Choice.{pick, both};
 ghost use Rattle.chip.specs.Fifo.{ends_over, fifo_bytes};
 ghost use Rattle.chip.specs.Image.{image_length, fifo_place};
@@ -10,13 +10,21 @@ use crate::{FIFO, LENGTH};
 use chip::Fifo;
 use fifo::part;
 
+// One byte.
 #[tactic(auto, unfolding(chip::specs::Choice::pick))]
+fn byte(at: usize, b: u8, image: &mut [u8])
+    requires { at < image_length }
+    ensures { image.new ≡ pick (eqb (length image.old) image_length) (set image.old at b) image.old }
+{
+    if image.len() == LENGTH {
+        image[at] = b;
+    }
+}
+
 pub fn pointer(b: u8, image: &mut [u8])
     ensures { image.new ≡ pick (eqb (length image.old) image_length) (set image.old 25 b) image.old }
 {
-    if image.len() == LENGTH {
-        image[25] = b;
-    }
+    byte(25, b, image);
 }
 
 // A register of 00 to 16h stands at its address.
@@ -24,32 +32,23 @@ pub fn pointer(b: u8, image: &mut [u8])
 pub fn register(a: u8, b: u8, image: &mut [u8])
     ensures { image.new ≡ pick (both (eqb (length image.old) image_length) (ltb a 0x17)) (set image.old a b) image.old }
 {
-    if image.len() == LENGTH {
-        if a < 0x17 {
-            let at = a as usize;
-            image[at] = b;
-        }
+    if a < 0x17 {
+        byte(a as usize, b, image);
     }
 }
 
 // The low byte of the count.
-#[tactic(auto, unfolding(chip::specs::Choice::pick))]
 pub fn count_low(b: u8, image: &mut [u8])
     ensures { image.new ≡ pick (eqb (length image.old) image_length) (set image.old 20 b) image.old }
 {
-    if image.len() == LENGTH {
-        image[20] = b;
-    }
+    byte(20, b, image);
 }
 
 // The phase of the last Request answered, as its byte.
-#[tactic(auto, unfolding(chip::specs::Choice::pick))]
 pub fn last(b: u8, image: &mut [u8])
     ensures { image.new ≡ pick (eqb (length image.old) image_length) (set image.old 37 b) image.old }
 {
-    if image.len() == LENGTH {
-        image[37] = b;
-    }
+    byte(37, b, image);
 }
 
 // The whole FIFO.

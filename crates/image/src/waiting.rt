@@ -15,9 +15,10 @@ pub fn front(image: &[u8]) -> u8
     ensures { result ≡ pick (eqb (length image.now) image_length) (front (state_of image.now).fifo) 0 }
 {
     if image.len() == LENGTH {
-        return part::front(&image[FIFO..LENGTH]);
+        part::front(&image[FIFO..LENGTH])
+    } else {
+        0
     }
-    0
 }
 
 // The oldest byte goes.
@@ -50,9 +51,10 @@ pub fn drain(image: &mut [u8], out: &mut [u8]) -> u8
         × (out.new ≡ (image_drained out.old image.old).bytes) }
 {
     if image.len() == LENGTH {
-        return bulk::drain(&mut image[FIFO..LENGTH], out);
+        bulk::drain(&mut image[FIFO..LENGTH], out)
+    } else {
+        0
     }
-    0
 }
 
 // Many bytes, from a slice, as long as fewer than n wait: how many.
@@ -62,7 +64,8 @@ pub fn fill(n: u32, image: &mut [u8], from: &[u8]) -> u8
         × (image.new ≡ (image_filled n from.now image.old).image) }
 {
     if image.len() == LENGTH {
-        return bulk::fill(n, &mut image[FIFO..LENGTH], from);
+        bulk::fill(n, &mut image[FIFO..LENGTH], from)
+    } else {
+        0
     }
-    0
 }

@@ -1,5 +1,5 @@
 -- `has_form`: the flag that the code makes is the definition's ranges, one beside the other.
-use Rattle.std.proofs.Common.{◌≡◌, refl, sym, ◌∙◌, Bool, true, false, List, ℕ, length, get_or, drop, ltb, eq-eqb}
+use Rattle.std.proofs.Common.{◌≡◌, refl, sym, ◌∙◌, Bool, true, false, List, ℕ, length, get_or, drop, ltb, eq-eqb, rules}
 use mathlib.Core.Bool.{◌&&◌}
 use Rattle.chip.specs.Choice.{both}
 use Rattle.chip.specs.Connections.{connection_count}
@@ -55,6 +55,6 @@ pub returns-then-ranges : goal.returns-then-ranges
 unfolding both
 returns-then-ranges c =
     let l = c.args.image.now in
-    let h = c.if-image-ne-LENGTH.false in
+    let h : length l ≡ image_length = search rules in
     c.is_fifo.ensures ∙ valid_end l h
     ∙ sym (settled l _ true h c.is_activity.ensures c.if-ranges.true)
