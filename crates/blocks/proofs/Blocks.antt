@@ -1,13 +1,12 @@
 -- A block, made of single accesses, is a run over the FIFO alone.
 --   read_in          coming in: what `drained` moves; an ending settles once, after the last byte
---   read_unfixed     no way fixed: nothing is read
---   read_out_lem         going out: nothing is read
+--   none_read        not coming in: nothing is read
 --   written_out      going out: what `filled` moves
---   written_unfixed  no way fixed: nothing is written
---   written_in       coming in: nothing is written
+--   none_written     not going out: nothing is written
 --   written_bytes    a write leaves the slice as it is
 --   settled_in       where data comes in, an ending that settles leaves the FIFO
-use mathlib.Core.Path.{◌≡◌, refl, ap, ◌∙◌}
+use mathlib.Core.Path.{◌≡◌, refl, sym, ap, ◌∙◌}
+use mathlib.Core.Logic.{◌≢◌}
 use mathlib.Core.Bool.{true, false}
 use mathlib.Core.List.{List, [], ◌∷◌}
 use Prim.Native.Nat.{ℕ}
@@ -36,13 +35,14 @@ unfolding block_read
 no_read [] s e = refl
 no_read (b ∷ l) s e = rw e
 
-pub read_unfixed : (l : List ℕ) (s : State) → s.transfer.direction ≡ Unfixed → block_read l s ≡ stopped l s
+read_by_way : (l : List ℕ) (s : State) (d : Direction) → s.transfer.direction ≡ d → d ≢ In → block_read l s ≡ stopped l s
 unfolding data_read
-read_unfixed l s d = no_read l s (rw d)
+read_by_way l s Unfixed e n = no_read l s (rw e)
+read_by_way l s In e n = absurd (n refl)
+read_by_way l s Out e n = no_read l s (rw e)
 
-pub read_out_lem : (l : List ℕ) (s : State) → s.transfer.direction ≡ Out → block_read l s ≡ stopped l s
-unfolding data_read
-read_out_lem l s d = no_read l s (rw d)
+pub none_read : (l : List ℕ) (s : State) → s.transfer.direction ≢ In → block_read l s ≡ stopped l s
+none_read l s n = read_by_way l s s.transfer.direction refl n
 
 empty_read : (l : List ℕ) (s : State) → s.transfer.direction ≡ In → is_empty s.fifo ≡ true → block_read l s ≡ stopped l s
 unfolding data_read dbr pick
@@ -114,13 +114,14 @@ unfolding block_written
 no_write [] s e = refl
 no_write (b ∷ l) s e = rw (e b)
 
-pub written_unfixed : (l : List ℕ) (s : State) → s.transfer.direction ≡ Unfixed → block_written l s ≡ stopped l s
+written_by_way : (l : List ℕ) (s : State) (d : Direction) → s.transfer.direction ≡ d → d ≢ Out → block_written l s ≡ stopped l s
 unfolding data_written
-written_unfixed l s d = no_write l s (λ b. rw d)
+written_by_way l s Unfixed e n = no_write l s (λ b. rw e)
+written_by_way l s In e n = no_write l s (λ b. rw e)
+written_by_way l s Out e n = absurd (n refl)
 
-pub written_in : (l : List ℕ) (s : State) → s.transfer.direction ≡ In → block_written l s ≡ stopped l s
-unfolding data_written
-written_in l s d = no_write l s (λ b. rw d)
+pub none_written : (l : List ℕ) (s : State) → s.transfer.direction ≢ Out → block_written l s ≡ stopped l s
+none_written l s n = written_by_way l s s.transfer.direction refl n
 
 full_write : (l : List ℕ) (s : State) → s.transfer.direction ≡ Out → takes (left s) s.fifo ≡ false → block_written l s ≡ stopped l s
 unfolding data_written dbr left takes pick
@@ -141,8 +142,8 @@ written_out (b ∷ l) s d =
     (λ e. full_write (b ∷ l) s d e ∙ rw (filled_none (left s) (b ∷ l) s.fifo e))
 
 written_bytes_by : (l : List ℕ) (s : State) (d : Direction) → s.transfer.direction ≡ d → (block_written l s).bytes ≡ l
-written_bytes_by l s Unfixed e = rw (written_unfixed l s e)
-written_bytes_by l s In e = rw (written_in l s e)
+written_bytes_by l s Unfixed e = rw (none_written l s (λ o. let c : Unfixed ≡ Out = sym e ∙ o in cc))
+written_bytes_by l s In e = rw (none_written l s (λ o. let c : In ≡ Out = sym e ∙ o in cc))
 written_bytes_by l s Out e = rw (written_out l s e)
 
 pub written_bytes : (l : List ℕ) (s : State) → (block_written l s).bytes ≡ l

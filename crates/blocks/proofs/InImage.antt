@@ -1,6 +1,6 @@
 -- Block moves in the image: what the stores leave is the image of the state that a block leads to. The bytes l are an image; t is their
 -- state as the code reads it.
---   state_is image_is       the state that bytes say, and bytes that are a state's image
+--   state_is way_is image_is   the state that bytes say, the way of its data, and bytes that are a state's image
 --   drained_in filled_in    many bytes moved there
 --   settled_made            an ending settled, where data comes in
 --   read_none read_settled read_calm   a block read: nothing moved, an ending settled, none under way
@@ -48,6 +48,9 @@ module _ (l : List ℕ) (o : IsImage l) where
 
   pub state_is : (t : State) → t ≡ pick (eqb (length l) image_length) (state_of l) fresh → t ≡ state_of l
   state_is t e = e ∙ taken _ _ fits
+
+  pub way_is : (t : State) → t ≡ pick (eqb (length l) image_length) (state_of l) fresh → (state_of l).transfer.direction ≡ t.transfer.direction
+  way_is t e = ap (λ (x : State). x.transfer.direction) (sym (state_is t e))
 
   -- the FIFO's part stored anew
   put : (q : Fifo) → take fifo_place l ++ fifo_bytes q ≡ image_of (set_fifo q (state_of l))
@@ -116,12 +119,12 @@ module _ (l : List ℕ) (o : IsImage l) where
     abbrev Read : ℕ → List ℕ → Type 0
     Read k b = (k ≡ (block_read d (state_of l)).number) × (b ≡ image_of (block_read d (state_of l)).state) × (z ≡ (block_read d (state_of l)).bytes)
 
-    pub read_none : n ≡ 0 → Read 0 a
+    pub read_none : n ≡ 0 → Read n a
     unfolding then
     read_none e =
         let none : run.moved ≡ 0 = sym number ∙ e in
         let kept : then ≡ state_of l = ap (λ (q : Fifo). set_fifo q (state_of l)) (drained_still d (state_of l).fifo none) in
-        rw block (sym none, after_is ∙ ap image_of (kept ∙ sym (taken _ _ (eq-eqb _ _ none))), lent)
+        rw block (number, after_is ∙ ap image_of (kept ∙ sym (taken _ _ (eq-eqb _ _ none))), lent)
 
     module _ (some : n ≡ 0 → ⊥) where
       moved_some : eqb run.moved 0 ≡ false

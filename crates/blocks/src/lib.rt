@@ -10,15 +10,14 @@ ghost use Rattle.image.specs.IsImage.{IsImage};
 
 use chip::Direction;
 use image::waiting;
-use state::get;
 
 // What an ending comes to once the FIFO is read out. Data comes in, so no byte of the FIFO changes.
 pub fn settle(image: &mut [u8])
     requires { IsImage image.old × ((state_of image.old).transfer.direction ≡ Direction.In) }
     ensures { image.new ≡ image_of (settled (state_of image.old)) }
 {
-    let read = image::state(image);
-    let settled = interrupts::settled(read);
+    let s = image::state(image);
+    let settled = interrupts::settled(s);
     image::write_on(settled, image);
 }
 
@@ -31,12 +30,8 @@ fn read_in(image: &mut [u8], out: &mut [u8]) -> u8
 {
     let s = image::state(image);
     let number = waiting::drain(image, out);
-    if number == 0 {
-        return 0;
-    }
-    if interrupts::in_ending(s) {
+    if number != 0 && interrupts::in_ending(s) {
         settle(image);
-        return number;
     }
     number
 }
@@ -49,11 +44,9 @@ pub fn block_read(image: &mut [u8], out: &mut [u8]) -> u8
         × (out.new ≡ (block_read out.old (state_of image.old)).bytes) }
 {
     let s = image::state(image);
-    let direction = get::direction(s);
-    match direction {
-        Direction::Unfixed => 0,
+    match s.transfer.direction {
         Direction::In => read_in(image, out),
-        Direction::Out => 0,
+        _ => 0,
     }
 }
 
@@ -64,13 +57,11 @@ pub fn block_written(image: &mut [u8], from: &[u8]) -> u8
         × (image.new ≡ image_of (block_written from.now (state_of image.old)).state) }
 {
     let s = image::state(image);
-    let direction = get::direction(s);
-    match direction {
-        Direction::Unfixed => 0,
-        Direction::In => 0,
+    match s.transfer.direction {
         Direction::Out => {
             let left = count::left(s);
             waiting::fill(left, image, from)
         }
+        _ => 0,
     }
 }

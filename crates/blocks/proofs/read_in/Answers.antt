@@ -3,9 +3,7 @@ use Rattle.std.proofs.Common.{ap, sym, ◌∙◌}
 use Rattle.chip.specs.Interrupts.{in_ending}
 use Rattle.blocks.proofs.InImage.{state_is, still_image, still_in, read_none, read_settled, read_calm}
 use Rattle.blocks.proofs.read_in.Goals as goal
-
-pub returns-then-number-eq0 : goal.returns-then-number-eq0
-returns-then-number-eq0 c = read_none _ c.requires.0 _ c.requires.1 _ _ _ c.drain-number.ensures c.if-number-eq0.true
+use Rattle.blocks.proofs.read_in.Goals.{else-number-ne0-via-then-number-ne0+else-in_ending, else-number-ne0-via-else-number-ne0}
 
 pub settle-requires : goal.settle-requires
 settle-requires c =
@@ -13,9 +11,13 @@ settle-requires c =
 
 pub returns-then-in_ending : goal.returns-then-in_ending
 returns-then-in_ending c =
-    read_settled _ c.requires.0 _ c.requires.1 _ _ _ c.drain-number.ensures c.if-number-eq0.false _ c.settle.ensures
+    read_settled _ c.requires.0 _ c.requires.1 _ _ _ c.drain-number.ensures c.if-number-ne0.true _ c.settle.ensures
 
-pub returns : goal.returns
-returns c =
-    read_calm _ c.requires.0 _ c.requires.1 _ _ _ c.drain-number.ensures c.if-number-eq0.false
-    (sym (ap in_ending (state_is _ c.requires.0 _ c.state-s.ensures)) ∙ sym c.if-in_ending.ensures)
+pub returns-else-number-ne0 : goal.returns-else-number-ne0
+returns-else-number-ne0 c =
+    elim c.else-number-ne0.branch [
+      | else-number-ne0-via-then-number-ne0+else-in_ending w ↦
+          read_calm _ c.requires.0 _ c.requires.1 _ _ _ c.drain-number.ensures w.if-number-ne0.true
+          (sym (ap in_ending (state_is _ c.requires.0 _ c.state-s.ensures)) ∙ sym w.in_ending.ensures ∙ w.if-in_ending.false)
+      | else-number-ne0-via-else-number-ne0 w ↦ read_none _ c.requires.0 _ c.requires.1 _ _ _ c.drain-number.ensures w.if-number-ne0.false
+    ]
