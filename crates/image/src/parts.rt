@@ -151,7 +151,7 @@ fn put_status(s: State, image: &mut [u8; LENGTH])
 fn put_rest(s: State, image: &mut [u8; LENGTH])
     ensures { image.new ≡ sets image.old 30 (drop 15 (middle_bytes s)) }
 {
-    image[30] = connections::connection_number(s.wire.connection);
+    image[30] = s.wire.connection as u8;
     image[31] = activity::running_number(s.activity);
     image[32] = s.transfer.direction as u8;
     image[33] = s.transfer.single as u8;
