@@ -6,7 +6,6 @@ ghost use Rattle.chip.specs.Entries.{result_of};
 ghost use Rattle.chip.specs.Answers.{number, value, says, ignored};
 
 use chip::{Answer, Reply, State};
-use state::set;
 
 pub fn number(a: Answer) -> u8
     ensures { result ≡ number a }
@@ -49,8 +48,9 @@ pub fn says(answer: Answer, state: State) -> Reply
 }
 
 // Command ignored, with LCI set.
-pub fn ignored(s: State) -> Reply
+pub fn ignored(mut s: State) -> Reply
     ensures { result ≡ ignored s }
 {
-    says(Answer::CommandIgnored, set::lci(s, true))
+    s.status.lci = true;
+    says(Answer::CommandIgnored, s)
 }
