@@ -36,7 +36,7 @@ pub(crate) enum Verb {
     Out,
     In,
     Translate,
-    Cylinder,
+    ReadCylinder,
     Time,
     Answer,
     Reselection,
@@ -60,7 +60,7 @@ impl Verb {
             b"out" => Verb::Out,
             b"in" => Verb::In,
             b"translate" => Verb::Translate,
-            b"cylinder?" => Verb::Cylinder,
+            b"cylinder?" => Verb::ReadCylinder,
             b"Time" => Verb::Time,
             b"Answer" => Verb::Answer,
             b"Reselection" => Verb::Reselection,
@@ -89,7 +89,7 @@ pub(crate) fn times(line: &[u8]) -> u32 {
     }
 }
 
-// A phase's number, as the entry takes it; 8, which it answers with Bad number, for a word that is no phase.
+// A phase's number and no enum, since the entry takes the number; 8, which it answers with Bad number, for a word that is no phase.
 fn phase_number(word: &[u8]) -> u32 {
     match word {
         b"Data-Out" => 0,
@@ -104,7 +104,7 @@ fn phase_number(word: &[u8]) -> u32 {
     }
 }
 
-// The controller's image, and the bytes of the last block that was read.
+// The controller's image, and the bytes of the last block that was read. am33c93a_image_length returns the 54, but no call may be a length.
 #[derive(Drop)]
 pub(crate) struct Device {
     image: [u8; 54],
@@ -216,6 +216,7 @@ impl Device {
     }
 
     fn block_in(&mut self, n: u32) -> Reply {
+        // The check takes a part of a slice, and not of an array in a field.
         let data = &mut self.data[..];
         let k = (n as usize).min(data.len());
         am33c93a_block(&mut self.image, 0, &mut data[..k]).into()
@@ -249,7 +250,7 @@ impl Device {
             Verb::Out => self.block_out(a, b),
             Verb::In => self.block_in(a),
             Verb::Translate => self.translate(line),
-            Verb::Cylinder => self.read_cylinder(),
+            Verb::ReadCylinder => self.read_cylinder(),
             Verb::Time => am33c93a_time(&mut self.image, a).into(),
             Verb::Answer => am33c93a_answer(&mut self.image).into(),
             Verb::Reselection => am33c93a_reselection(&mut self.image, a).into(),

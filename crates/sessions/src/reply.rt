@@ -1,4 +1,4 @@
-// What an entry of the controller returns, taken apart: an answer and its value.
+// What an entry of the controller returns, a number for C, taken apart: an answer and its value.
 use crate::words;
 
 #[derive(Clone, Copy, PartialEq, Eq)]

@@ -149,7 +149,7 @@ fn say_value(verb: Option<Verb>, value: u32, before: u32, data: &[u8]) {
             say(b" ");
             names::say_byte(value);
         }
-        Some(Verb::ReadCount | Verb::Out | Verb::Cylinder) => {
+        Some(Verb::ReadCount | Verb::Out | Verb::ReadCylinder) => {
             say(b" ");
             names::say_decimal(value);
         }
