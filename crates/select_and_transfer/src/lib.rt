@@ -37,7 +37,7 @@ fn send_identify(p: Phase, mut s: State) -> Reply
     says(Answer::Done(byte), s)
 }
 
-// x is how many command bytes were taken, so it is below the longest command's 12.
+// x is how many command bytes were taken, so it is below the longest command's 12. For the index the twelve bytes are copied, not the state.
 #[tactic(auto, unfolding(chip::specs::SelectAndTransfer::send_command, chip::specs::Choice::pick))]
 fn send_command(x: u8, p: Phase, mut s: State) -> Reply
     requires { x < 12 }
@@ -46,8 +46,9 @@ fn send_command(x: u8, p: Phase, mut s: State) -> Reply
     if p != Phase::CommandOut {
         return take::unexpected(p, s);
     }
+    let cdb = s.registers.descriptor.cdb;
     s.registers.descriptor.phase = 0x31 + x;
-    says(Answer::Done(s.registers.descriptor.cdb[x as usize]), s)
+    says(Answer::Done(cdb[x as usize]), s)
 }
 
 #[tactic(auto, unfolding(chip::specs::SelectAndTransfer::phase_after, chip::specs::Choice::pick))]
@@ -100,22 +101,26 @@ fn late_request(request: Request, s: State) -> Reply
     }
 }
 
-// As long as data is expected, the first Data Request fixes the direction. Going out it is Reported and offered again.
-#[tactic(auto, unfolding(chip::specs::SelectAndTransfer::body_request, chip::specs::SelectAndTransfer::late_request, chip::specs::SelectAndTransfer::unless_none_left, chip::specs::SelectAndTransfer::data_out, chip::specs::SelectAndTransfer::data_in, chip::specs::Choice::pick))]
-fn body_request(request: Request, mut s: State) -> Reply
+// The first Data Request fixes the direction. Going out it is Reported and offered again: this alone changes the state here, so it alone
+// copies it.
+#[tactic(auto, unfolding(chip::specs::SelectAndTransfer::body_request, chip::specs::SelectAndTransfer::unless_none_left, chip::specs::SelectAndTransfer::data_out, chip::specs::SelectAndTransfer::data_in, chip::specs::Choice::pick))]
+fn body_request(request: Request, s: State) -> Reply
     ensures { result ≡ body_request request.phase request.byte request.bad s }
 {
-    if count::none_left(s) {
-        return late_request(request, s);
-    }
+    let expects_data = !count::none_left(s);
     match (request.phase, s.transfer.direction) {
-        (Phase::DataOut, Direction::Unfixed) => {
-            s.transfer.direction = Direction::Out;
-            says(Answer::Reported, s)
+        (Phase::DataOut, Direction::Unfixed) if expects_data => {
+            let mut t = s;
+            t.transfer.direction = Direction::Out;
+            says(Answer::Reported, t)
         }
-        (Phase::DataOut, Direction::Out) => send_data(s),
-        (Phase::DataIn, Direction::Unfixed | Direction::In) => take_data(request, s),
-        _ => late_request(request, s),
+        (Phase::DataOut, Direction::Out) if expects_data => send_data(s),
+        (Phase::DataIn, Direction::Unfixed | Direction::In) if expects_data => take_data(
+            request, s,
+        ),
+        (Phase::StatusIn, _) => take::status(request, s),
+        (Phase::MessageIn, _) => take::message(request, s),
+        (p, _) => take::unexpected(p, s),
     }
 }
 

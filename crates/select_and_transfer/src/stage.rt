@@ -6,7 +6,8 @@ ghost use Rattle.chip.specs.SelectAndTransfer.{has_size, size, stage};
 use chip::{Stage, State};
 use state::activity;
 
-// By the top three bits of CDB byte 1. A group that has no size gets 0, as in the definition, which is then below no number of bytes taken.
+// By the top three bits of CDB byte 1. A group that has no size gets 0 and no None, as its definition says: no number of bytes taken is
+// below 0, so that stage and has_size need no case of it.
 #[tactic(auto, unfolding(chip::specs::SelectAndTransfer::size, chip::specs::SelectAndTransfer::size_of, chip::specs::Choice::pick))]
 pub fn size(s: State) -> u8
     ensures { (result ≡ size s) × (result ≤ 12) }
@@ -26,22 +27,30 @@ pub fn has_size(s: State) -> bool
     0 < size(s)
 }
 
-// What the phase register of the running command stands for. At 3xh x command bytes were taken.
+// What the phase register of the running command stands for, while the command is sent and after. At 3xh x command bytes were taken.
+// Two matches: one alone would be a table too long to stand in each caller, and a call would copy the state.
 #[tactic(auto, unfolding(chip::specs::SelectAndTransfer::stage, chip::specs::SelectAndTransfer::stage_of, chip::specs::SelectAndTransfer::first_stage, chip::specs::SelectAndTransfer::next_stage, chip::specs::SelectAndTransfer::is_command_phase, chip::specs::Choice::pick, chip::specs::Choice::both))]
 pub fn stage(s: State) -> Stage
     ensures { (result ≡ stage s) × Sendable result }
 {
     let size = size(s);
-    match s.registers.descriptor.phase {
-        0x10 if activity::sets_atn(s) => Stage::SendIdentify,
-        0x10 | 0x20 | 0x30 if 0 < size => Stage::SendCommand(0),
-        phase @ 0x31..=0x3f if phase - 0x30 < size => Stage::SendCommand(phase - 0x30),
-        phase @ 0x31..=0x3f if phase - 0x30 == size => Stage::Body,
-        0x41 | 0x45 => Stage::Body,
-        0x42 => Stage::Disconnecting,
-        0x44 => Stage::Reselected,
-        0x46 => Stage::AfterData,
-        0x50 => Stage::AfterStatus,
-        _ => Stage::Elsewhere,
+    let phase = s.registers.descriptor.phase;
+    if phase < 0x40 {
+        match phase {
+            0x10 if activity::sets_atn(s) => Stage::SendIdentify,
+            0x10 | 0x20 | 0x30 if 0 < size => Stage::SendCommand(0),
+            0x31..=0x3f if phase - 0x30 < size => Stage::SendCommand(phase - 0x30),
+            0x31..=0x3f if phase - 0x30 == size => Stage::Body,
+            _ => Stage::Elsewhere,
+        }
+    } else {
+        match phase {
+            0x41 | 0x45 => Stage::Body,
+            0x42 => Stage::Disconnecting,
+            0x44 => Stage::Reselected,
+            0x46 => Stage::AfterData,
+            0x50 => Stage::AfterStatus,
+            _ => Stage::Elsewhere,
+        }
     }
 }
