@@ -16,7 +16,7 @@ pub struct Asked {
 }
 
 // What the command of a code asks for beside the connection.
-#[tactic(auto, unfolding(chip::specs::Commands::is_ready, chip::specs::SelectAndTransfer::is_resumable, chip::specs::SelectAndTransfer::has_size, chip::specs::Choice::pick, chip::specs::Choice::both, chip::specs::Choice::either))]
+#[tactic(auto, unfolding(chip::specs::Commands::is_ready, chip::specs::Choice::pick, chip::specs::Choice::both, chip::specs::Choice::either))]
 fn is_ready(n: u8, s: State) -> bool
     ensures { result ≡ is_ready n s }
 {
@@ -40,7 +40,7 @@ impl Asked {
         }
     }
 
-    #[tactic(auto, unfolding(chip::specs::Choice::both, chip::specs::Commands::is_ready))]
+    #[tactic(auto, unfolding(chip::specs::Choice::both))]
     pub fn is_valid(self, s: State) -> bool
         ensures { result ≡ both (is_place self.entry.place s.wire.connection) (is_ready self.code s) }
     {
@@ -48,7 +48,7 @@ impl Asked {
     }
 
     // Level II, or not valid now.
-    #[tactic(auto, unfolding(chip::specs::Choice::both, chip::specs::Choice::either, chip::specs::Interrupts::busy, chip::specs::Commands::is_ready))]
+    #[tactic(auto, unfolding(chip::specs::Choice::both, chip::specs::Choice::either))]
     pub fn is_refused_busy(self, s: State) -> bool
         ensures { result ≡ both (busy s) (either (is_two self.entry.level) (not (both (is_place self.entry.place s.wire.connection) (is_ready self.code s)))) }
     {

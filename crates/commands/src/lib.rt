@@ -10,6 +10,7 @@ ghost use Rattle.chip.specs.Commands.{carried_out, commanded};
 use crate::accept::Asked;
 use chip::{Answer, Command, Reply, State};
 
+// Codes stay numbers, as in the definition: an enum of them would need a match from the byte with the same lines again.
 #[tactic(auto, unfolding(chip::specs::Commands::carried_out, chip::specs::Choice::pick))]
 fn carried_out(n: u8, single: bool, mut s: State) -> State
     ensures { result ≡ carried_out n single s }

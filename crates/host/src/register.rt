@@ -1,4 +1,5 @@
-// Registers 00 to 16h, read and stored at their addresses.
+// Registers 00 to 16h, read and stored at their addresses. Those stay numbers, as in the definition: the pointer holds any byte, and 03 to 0Eh are
+// places of one array.
 ghost use Rattle.std.specs.Prelude.{◌≡◌};
 ghost use Rattle.chip.specs.Registers.{register_at, stored};
 
