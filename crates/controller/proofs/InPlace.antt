@@ -6,14 +6,14 @@ use Rattle.chip.specs.Choice.{pick}
 use Rattle.chip.specs.declared.State.{State}
 use Rattle.chip.specs.declared.Fifo.{Fifo}
 use Rattle.chip.specs.Fifo.{fifo_bytes, Whole}
-use Rattle.chip.specs.State.{fresh, set_pointer, set_fifo, set_count, set_last}
+use Rattle.chip.specs.State.{set_pointer, set_fifo, set_count, set_last}
 use Rattle.chip.specs.Image.{image_of, state_of, noted_byte, image_length, fifo_place}
 use Rattle.chip.specs.declared.Phase.{Phase}
 use Rattle.chip.proofs.FifoLaws.{fifo_length_lem}
 use Rattle.chip.proofs.ImagePlaces.{head_length, middle_length}
 use Rattle.image.specs.IsImage.{IsImage}
 use Rattle.chip.proofs.ImageFields.{Long, long, pointer_stored, last_stored, low_stored, fifo_stored}
-use Rattle.controller.proofs.Entry.{long_enough, pick_true}
+use Rattle.chip.proofs.Cases.{taken}
 
 pub record At (l : List ℕ) (t : State) : Type 0 where
   pub image : l ≡ image_of t
@@ -22,10 +22,6 @@ pub record At (l : List ℕ) (t : State) : Type 0 where
 
 pub at_start : {l : List ℕ} → IsImage l → At l (state_of l)
 at_start o = record { image = sym o.same; long = long o.ok; fifo = o.ok.fifo }
-
--- the state as the code reads it
-pub state_is : (l : List ℕ) (s : State) → IsImage l → s ≡ pick (eqb (length l) image_length) (state_of l) fresh → s ≡ state_of l
-state_is l s o e = e ∙ pick_true _ _ _ (long_enough l o.valid)
 
 module _ {l : List ℕ} {t : State} (a : At l t) where
   pub fits : length l ≡ image_length
@@ -41,7 +37,7 @@ module _ {l : List ℕ} {t : State} (a : At l t) where
   put_pointer_at after b e =
       record {
         image =
-            e ∙ pick_true _ _ _ whole ∙ ap (λ (x : List ℕ). set x 25 b) a.image ∙ sym (pointer_stored b t a.long);
+            e ∙ taken _ _ whole ∙ ap (λ (x : List ℕ). set x 25 b) a.image ∙ sym (pointer_stored b t a.long);
         long = record { cdb_long = a.long.cdb_long };
         fifo = a.fifo;
       }
@@ -51,7 +47,7 @@ module _ {l : List ℕ} {t : State} (a : At l t) where
   put_last_at after v p e n =
       record {
         image =
-            e ∙ pick_true _ _ _ whole ∙ ap (λ (x : ℕ). set l 37 x) n
+            e ∙ taken _ _ whole ∙ ap (λ (x : ℕ). set l 37 x) n
             ∙ ap (λ (x : List ℕ). set x 37 (noted_byte p)) a.image ∙ sym (last_stored p t a.long);
         long = record { cdb_long = a.long.cdb_long };
         fifo = a.fifo;
@@ -62,7 +58,7 @@ module _ {l : List ℕ} {t : State} (a : At l t) where
   put_low_at after n b v e h =
       record {
         image =
-            e ∙ pick_true _ _ _ whole ∙ ap (λ (x : ℕ). set l 20 x) v ∙ ap (λ (x : List ℕ). set x 20 (n % 256)) a.image
+            e ∙ taken _ _ whole ∙ ap (λ (x : ℕ). set l 20 x) v ∙ ap (λ (x : List ℕ). set x 20 (n % 256)) a.image
             ∙ sym (low_stored n t a.long h);
         long = record { cdb_long = a.long.cdb_long };
         fifo = a.fifo;
@@ -73,7 +69,7 @@ module _ {l : List ℕ} {t : State} (a : At l t) where
   put_fifo_at after q u e =
       record {
         image =
-            e ∙ pick_true _ _ _ whole ∙ ap (λ (x : List ℕ). take fifo_place x ++ fifo_bytes q) a.image
+            e ∙ taken _ _ whole ∙ ap (λ (x : List ℕ). take fifo_place x ++ fifo_bytes q) a.image
             ∙ sym (fifo_stored q t a.long);
         long = record { cdb_long = a.long.cdb_long };
         fifo = u;

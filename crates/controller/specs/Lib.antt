@@ -1,1 +1,3 @@
+pub mod Enters
+pub mod Operands
 pub mod Returns

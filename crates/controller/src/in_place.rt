@@ -1,142 +1,118 @@
-// Calls made in the image itself: those that room moves names store only the bytes that change. Every other call is made on the
-// state, and the whole image is written.
+// The calls on the lent bytes. Those that room moves names store only the bytes that change; every other call is made on the state, and
+// the whole image is written.
+// `requires { IsImage image.old }` stands in each helper: a struct around the `&mut [u8]` with that as its ghost field would have to be
+// an image again after each single store.
+#![tactic(auto, unfolding(chip::specs::Choice::pick))]
+
 ghost use Rattle.std.specs.Prelude.{◌≡◌, ◌-◌, ◌%◌, ◌≤◌, true, false};
-ghost use Rattle.chip.specs.Calls.{is_set};
 ghost use Rattle.chip.specs.Choice.{pick};
-ghost use Rattle.chip.specs.Events.{passed, requested, reselected};
+ghost use Rattle.chip.specs.Events.{answered, freed, passed, requested, reselected};
 ghost use Rattle.chip.specs.Fifo.{has_room, is_empty};
 ghost use Rattle.chip.specs.Image.{state_of};
-ghost use Rattle.chip.specs.Phases.{phase_of};
+ghost use Rattle.chip.specs.Moves.{is_plain, reads_data, sends_data, takes_data, writes_data};
 ghost use Rattle.chip.specs.Registers.{accessed, auxiliary_read, block_read, block_written, pointer_read, pointer_set};
-ghost use Rattle.controller.specs.Returns.{Returns, ReturnsMoved};
+ghost use Rattle.controller.specs.Returns.{Returns, Serves, ServesBlock};
 ghost use Rattle.image.specs.IsImage.{IsImage};
-ghost use Rattle.chip.specs.Moves.{is_plain, reads_data, sends_data, takes_data};
 
-use crate::finish;
-use bus::{request, reselection, time};
-use chip::{Answer, Phase, State};
+use crate::operands::{BadNumber, state_of};
+use bus::{answer, free, request, reselection, time};
+use chip::{Answer, Phase, Reply, State};
 use image::{store, waiting};
 
-pub(crate) fn pointer(mark: u32, byte: u8, image: &mut [u8]) -> u32
-    requires { IsImage image.old }
-    ensures { Returns (pick (is_set mark) (pointer_set byte (state_of image.old)) (pointer_read (state_of image.old))) result image.new }
+// The state that an image says.
+#[tactic(auto, using(crate::proofs::Entry::long_enough), unfolding(chip::specs::Choice::pick))]
+fn state(image: &[u8]) -> State
+    requires { IsImage image.now }
+    ensures { result ≡ state_of image.now }
 {
-    if mark == 1 {
-        store::pointer(byte, image);
-        return 0;
-    }
-    let s = image::state(image);
-    256 * (s.status.pointer as u32)
+    image::state(image)
 }
 
-pub(crate) fn auxiliary(image: &mut [u8]) -> u32
+// What a call made on the state does last: the new state goes into the image.
+#[tactic(auto, using(crate::proofs::Entry::long_enough), unfolding(chip::specs::Choice::pick))]
+fn finish(r: Reply, image: &mut [u8]) -> Answer
     requires { IsImage image.old }
-    ensures { Returns (auxiliary_read (state_of image.old)) result image.new }
+    ensures { Returns r result image.new }
 {
-    let s = image::state(image);
-    let r = host::auxiliary_read(s);
-    let a = r.answer;
-    answers::result(a)
+    image::write(r.state, image);
+    r.answer
 }
 
 // One of registers 00 to 16h is read. "The 8-bit address pointer uses the supplied wrapping add at every address but three."
-fn plain_read(image: &mut [u8]) -> u32
+#[tactic(auto, using(crate::proofs::Steps::length_is, crate::proofs::Steps::plain_below, crate::proofs::Steps::plain_given))]
+fn plain_read(image: &mut [u8]) -> Answer
     requires { IsImage image.old × (is_plain (state_of image.old) ≡ true) }
     ensures { Returns (accessed false 0 (state_of image.old)) result image.new }
 {
     let a = image[25];
-    let at = a as usize;
-    let value = image[at];
+    let value = image[a as usize];
     store::pointer(std::num::wrapping_add_u8(a, 1), image);
-    256 * (value as u32)
+    Answer::Done(value)
 }
 
 // One of them is written.
-fn plain_written(byte: u8, image: &mut [u8]) -> u32
+#[tactic(auto, using(crate::proofs::Steps::length_is, crate::proofs::Steps::plain_written))]
+fn plain_written(byte: u8, image: &mut [u8]) -> Answer
     requires { IsImage image.old × (is_plain (state_of image.old) ≡ true) }
     ensures { Returns (accessed true byte (state_of image.old)) result image.new }
 {
     let a = image[25];
     store::register(a, byte, image);
     store::pointer(std::num::wrapping_add_u8(a, 1), image);
-    0
+    Answer::Done(0)
 }
 
 // The oldest byte of the FIFO, for the host. The last one of an ending lets it settle.
-fn data_read(image: &mut [u8]) -> u32
+#[tactic(auto, using(crate::proofs::Steps::data_given, crate::proofs::Steps::data_settled))]
+fn data_read(image: &mut [u8]) -> Answer
     requires { IsImage image.old × (reads_data (state_of image.old) ≡ true) }
     ensures { Returns (accessed false 0 (state_of image.old)) result image.new }
 {
-    let s = image::state(image);
+    let s = state(image);
     let value = waiting::front(image);
     waiting::pop(image);
     if interrupts::in_ending(s) {
         blocks::settle(image);
-        return 256 * (value as u32);
     }
-    256 * (value as u32)
+    Answer::Done(value)
 }
 
-// The long ways. tools/native-lib keeps them out of the entries' own code, which then needs few registers.
+// A byte from the host, into the FIFO.
+#[tactic(auto, using(crate::proofs::Steps::data_written_lem))]
+fn data_written(byte: u8, image: &mut [u8]) -> Answer
+    requires { IsImage image.old × (writes_data (state_of image.old) ≡ true) }
+    ensures { Returns (accessed true byte (state_of image.old)) result image.new }
+{
+    waiting::push(byte, image);
+    Answer::Done(0)
+}
 
-fn read_whole(image: &mut [u8]) -> u32
+// The long ways. tools/native-lib keeps them out of the entries' own code, which then needs few registers. A read and a write are two
+// functions, since one with a flag would ask it again at each step.
+
+fn read_whole(image: &mut [u8]) -> Answer
     requires { IsImage image.old }
     ensures { Returns (accessed false 0 (state_of image.old)) result image.new }
 {
-    let s = image::state(image);
-    finish::finish(host::accessed(false, 0, s), image)
+    finish(host::accessed(false, 0, state(image)), image)
 }
 
-fn written_whole(byte: u8, image: &mut [u8]) -> u32
+fn written_whole(byte: u8, image: &mut [u8]) -> Answer
     requires { IsImage image.old }
     ensures { Returns (accessed true byte (state_of image.old)) result image.new }
 {
-    let s = image::state(image);
-    finish::finish(host::accessed(true, byte, s), image)
+    finish(host::accessed(true, byte, state(image)), image)
 }
 
-fn request_whole(phase: u8, byte: u8, bad: bool, image: &mut [u8]) -> u32
+// At most one byte came into the FIFO, so of its places that one's alone is stored.
+#[tactic(auto, using(chip::proofs::FifoSteps::requested_goes))]
+fn request_whole(phase: Phase, byte: u8, bad: bool, image: &mut [u8]) -> Answer
     requires { IsImage image.old }
-    ensures { Returns (requested (phase_of phase) byte bad (state_of image.old)) result image.new }
+    ensures { Returns (requested phase byte bad (state_of image.old)) result image.new }
 {
-    let s = image::state(image);
-    let p = phases::phase_of(phase);
-    finish::finish_on(request::requested(p, byte, bad, s), image)
-}
-
-pub(crate) fn register_read(image: &mut [u8]) -> u32
-    requires { IsImage image.old }
-    ensures { Returns (accessed false 0 (state_of image.old)) result image.new }
-{
-    let s = image::state(image);
-    if moves::is_plain(s) {
-        return plain_read(image);
-    }
-    if moves::reads_data(s) {
-        return data_read(image);
-    }
-    if moves::is_at_data(s) {
-        return answers::result(Answer::NoDataNow);
-    }
-    read_whole(image)
-}
-
-pub(crate) fn register_written(byte: u8, image: &mut [u8]) -> u32
-    requires { IsImage image.old }
-    ensures { Returns (accessed true byte (state_of image.old)) result image.new }
-{
-    let s = image::state(image);
-    if moves::is_plain(s) {
-        return plain_written(byte, image);
-    }
-    if moves::writes_data(s) {
-        waiting::push(byte, image);
-        return 0;
-    }
-    if moves::is_at_data(s) {
-        return answers::result(Answer::NoDataNow);
-    }
-    written_whole(byte, image)
+    let r = request::requested(phase, byte, bad, state(image));
+    image::write_on(r.state, image);
+    r.answer
 }
 
 // The low byte of the count, one less.
@@ -148,113 +124,173 @@ fn low_after(s: State) -> u8
 }
 
 // A byte of Data In, into the FIFO.
-fn byte_taken(byte: u8, image: &mut [u8]) -> u32
+#[tactic(auto, using(crate::proofs::Steps::low_enough, crate::proofs::Steps::taken_made))]
+fn byte_taken(byte: u8, image: &mut [u8]) -> Answer
     requires { IsImage image.old × (takes_data (state_of image.old) ≡ true) × (has_room (state_of image.old).fifo ≡ true) }
     ensures { Returns (requested Phase.DataIn byte false (state_of image.old)) result image.new }
 {
-    let s = image::state(image);
-    let low = low_after(s);
+    let low = low_after(state(image));
     waiting::push(byte, image);
     store::count_low(low, image);
     store::last(2, image);
-    256 * (byte as u32)
+    Answer::Done(byte)
 }
 
 // A byte of Data Out, from the FIFO.
-fn byte_sent(byte: u8, bad: bool, image: &mut [u8]) -> u32
+#[tactic(auto, using(crate::proofs::Steps::low_enough_out, crate::proofs::Steps::sent_made))]
+fn byte_sent(byte: u8, bad: bool, image: &mut [u8]) -> Answer
     requires { IsImage image.old × (sends_data (state_of image.old) ≡ true) × (is_empty (state_of image.old).fifo ≡ false) }
     ensures { Returns (requested Phase.DataOut byte bad (state_of image.old)) result image.new }
 {
-    let s = image::state(image);
-    let low = low_after(s);
+    let low = low_after(state(image));
     let value = waiting::front(image);
     waiting::pop(image);
     store::count_low(low, image);
     store::last(1, image);
-    256 * (value as u32)
+    Answer::Done(value)
 }
 
-// A Request of Data In with good parity.
-#[tactic(auto, unfolding(chip::specs::Phases::phase_of, chip::specs::Choice::pick))]
-fn request_in(byte: u8, image: &mut [u8]) -> u32
-    requires { IsImage image.old }
-    ensures { Returns (requested Phase.DataIn byte false (state_of image.old)) result image.new }
+// The calls. Each tests the image before all else.
+
+#[tactic(auto, using(crate::proofs::Steps::pointer_stored_made), unfolding(chip::specs::Registers::pointer_read, chip::specs::Registers::pointer_set, chip::specs::Choice::pick))]
+pub(crate) fn pointer(writes: bool, byte: u8, image: &mut [u8]) -> Result<Answer, BadNumber>
+    ensures { Serves (λ s. pick writes (pointer_set byte s) (pointer_read s)) result image.old image.new }
 {
-    let s = image::state(image);
-    if moves::takes_data(s) {
-        if moves::has_room(s) {
-            return byte_taken(byte, image);
+    let s = state_of(image)?;
+    if writes {
+        store::pointer(byte, image);
+        return Ok(Answer::Done(0));
+    }
+    Ok(Answer::Done(s.status.pointer))
+}
+
+#[tactic(auto, unfolding(chip::specs::Registers::auxiliary_read, chip::specs::Choice::pick))]
+pub(crate) fn auxiliary(image: &mut [u8]) -> Result<Answer, BadNumber>
+    ensures { Serves auxiliary_read result image.old image.new }
+{
+    let s = state_of(image)?;
+    Ok(host::auxiliary_read(s).answer)
+}
+
+#[tactic(auto, using(crate::proofs::Steps::read_alike, chip::proofs::Moves::nothing_read, chip::proofs::Moves::nothing_written), unfolding(chip::specs::Choice::pick))]
+pub(crate) fn register(writes: bool, byte: u8, image: &mut [u8]) -> Result<Answer, BadNumber>
+    ensures { Serves (accessed writes byte) result image.old image.new }
+{
+    let s = state_of(image)?;
+    Ok(if moves::is_plain(s) {
+        if writes {
+            plain_written(byte, image)
+        } else {
+            plain_read(image)
         }
-        return answers::result(Answer::Held);
-    }
-    request_whole(1, byte, false, image)
+    } else if writes && moves::writes_data(s) {
+        data_written(byte, image)
+    } else if !writes && moves::reads_data(s) {
+        data_read(image)
+    } else if moves::is_at_data(s) {
+        Answer::NoDataNow
+    } else if writes {
+        written_whole(byte, image)
+    } else {
+        read_whole(image)
+    })
 }
 
-// A Request of Data Out.
-#[tactic(auto, unfolding(chip::specs::Phases::phase_of, chip::specs::Choice::pick))]
-fn request_out(byte: u8, bad: bool, image: &mut [u8]) -> u32
-    requires { IsImage image.old }
-    ensures { Returns (requested Phase.DataOut byte bad (state_of image.old)) result image.new }
+#[tactic(auto, using(blocks::proofs::Blocks::written_bytes), unfolding(chip::specs::Choice::pick))]
+pub(crate) fn block(writes: bool, bytes: &mut [u8], image: &mut [u8]) -> Result<Answer, BadNumber>
+    ensures { ServesBlock (λ s. pick writes (block_written bytes.old s) (block_read bytes.old s)) result image.old image.new bytes.old bytes.new }
 {
-    let s = image::state(image);
-    if moves::sends_data(s) {
-        if moves::has_byte(s) {
-            return byte_sent(byte, bad, image);
-        }
-        return answers::result(Answer::Held);
-    }
-    request_whole(0, byte, bad, image)
-}
-
-pub(crate) fn request(phase: u8, byte: u8, bad: bool, image: &mut [u8]) -> u32
-    requires { IsImage image.old }
-    ensures { Returns (requested (phase_of phase) byte bad (state_of image.old)) result image.new }
-{
-    if phase == 0 {
-        return request_out(byte, bad, image);
-    }
-    if phase == 1 {
-        if bad {
-            return request_whole(phase, byte, bad, image);
-        }
-        return request_in(byte, image);
-    }
-    request_whole(phase, byte, bad, image)
-}
-
-// A block move.
-pub(crate) fn block(mark: u32, bytes: &mut [u8], image: &mut [u8]) -> u32
-    requires { IsImage image.old }
-    ensures { ReturnsMoved (pick (is_set mark) (block_written bytes.old (state_of image.old)) (block_read bytes.old (state_of image.old))) result image.new bytes.new }
-{
-    if mark == 1 {
-        let number = blocks::block_written(image, bytes);
-        return answers::result(Answer::Done(number));
-    }
-    let number = blocks::block_read(image, bytes);
-    answers::result(Answer::Done(number))
+    state_of(image)?;
+    Ok(Answer::Done(if writes {
+        blocks::block_written(image, bytes)
+    } else {
+        blocks::block_read(image, bytes)
+    }))
 }
 
 // Time counts only where a selection runs.
-pub(crate) fn time(units: u8, image: &mut [u8]) -> u32
-    requires { IsImage image.old }
-    ensures { Returns (passed units (state_of image.old)) result image.new }
+#[tactic(auto, unfolding(chip::specs::Events::passed, chip::specs::Choice::pick))]
+pub(crate) fn time(units: u8, image: &mut [u8]) -> Result<Answer, BadNumber>
+    ensures { Serves (passed units) result image.old image.new }
 {
-    let s = image::state(image);
-    if time::selects(s) {
-        return finish::finish(time::passed(units, s), image);
+    let s = state_of(image)?;
+    if !time::selects(s) {
+        return Ok(Answer::Done(0));
     }
-    0
+    Ok(finish(time::passed(units, s), image))
+}
+
+pub(crate) fn answer(image: &mut [u8]) -> Result<Answer, BadNumber>
+    ensures { Serves answered result image.old image.new }
+{
+    let s = state_of(image)?;
+    Ok(finish(answer::answered(s), image))
 }
 
 // A reselection that names another is not for us, and changes nothing.
-pub(crate) fn reselection(data_lines: u8, image: &mut [u8]) -> u32
-    requires { IsImage image.old }
-    ensures { Returns (reselected data_lines (state_of image.old)) result image.new }
+#[tactic(auto, unfolding(chip::specs::Events::reselected, chip::specs::Choice::pick))]
+pub(crate) fn reselection(data_lines: u8, image: &mut [u8]) -> Result<Answer, BadNumber>
+    ensures { Serves (reselected data_lines) result image.old image.new }
 {
-    let s = image::state(image);
-    if lines::qualifies(data_lines, s) {
-        return finish::finish(reselection::reselected(data_lines, s), image);
+    let s = state_of(image)?;
+    if !lines::qualifies(data_lines, s) {
+        return Ok(Answer::ReselectionIgnored);
     }
-    answers::result(Answer::ReselectionIgnored)
+    Ok(finish(reselection::reselected(data_lines, s), image))
+}
+
+// A Request of Data In with good parity.
+#[tactic(auto, using(chip::proofs::Moves::in_held), unfolding(chip::specs::Choice::pick))]
+fn request_in(byte: u8, image: &mut [u8]) -> Result<Answer, BadNumber>
+    ensures { Serves (requested Phase.DataIn byte false) result image.old image.new }
+{
+    let s = state_of(image)?;
+    Ok(if !moves::takes_data(s) {
+        request_whole(Phase::DataIn, byte, false, image)
+    } else if moves::has_room(s) {
+        byte_taken(byte, image)
+    } else {
+        Answer::Held
+    })
+}
+
+// A Request of Data Out.
+#[tactic(auto, using(chip::proofs::Moves::out_held), unfolding(chip::specs::Choice::pick))]
+fn request_out(byte: u8, bad: bool, image: &mut [u8]) -> Result<Answer, BadNumber>
+    ensures { Serves (requested Phase.DataOut byte bad) result image.old image.new }
+{
+    let s = state_of(image)?;
+    Ok(if !moves::sends_data(s) {
+        request_whole(Phase::DataOut, byte, bad, image)
+    } else if moves::has_byte(s) {
+        byte_sent(byte, bad, image)
+    } else {
+        Answer::Held
+    })
+}
+
+pub(crate) fn request(
+    phase: Phase,
+    byte: u8,
+    bad: bool,
+    image: &mut [u8],
+) -> Result<Answer, BadNumber>
+    ensures { Serves (requested phase byte bad) result image.old image.new }
+{
+    // A `match` would ask for the other six phases first.
+    if matches!(phase, Phase::DataOut) {
+        request_out(byte, bad, image)
+    } else if matches!(phase, Phase::DataIn) && !bad {
+        request_in(byte, image)
+    } else {
+        state_of(image)?;
+        Ok(request_whole(phase, byte, bad, image))
+    }
+}
+
+pub(crate) fn free(image: &mut [u8]) -> Result<Answer, BadNumber>
+    ensures { Serves freed result image.old image.new }
+{
+    let s = state_of(image)?;
+    Ok(finish(free::freed(s), image))
 }

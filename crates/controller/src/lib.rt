@@ -3,19 +3,31 @@
 // byte as it was. Room controller_c gives them their C names; include/am33c93a.h is the C side.
 #![tactic(auto)]
 
+mod calls; // calls.rt: the calls as C makes them
 mod driven; // driven.rt: what a board drives on the bus
-mod finish; // finish.rt: what every entry does last
-mod in_place; // in_place.rt: calls that store only the bytes that change
+mod in_place; // in_place.rt: the calls on the lent bytes
+mod operands; // operands.rt: the tests of what C passes
 
 ghost use Rattle.chip.specs.Calls as Calls;
-ghost use Rattle.chip.specs.Entries.{entered, fresh_entered, lines_entered};
+ghost use Rattle.chip.specs.Entries.{entered, fresh_entered, lines_entered, result_of};
 ghost use Rattle.chip.specs.Image.{image_length};
+ghost use Rattle.controller.specs.Enters.{told};
 ghost use Rattle.std.specs.Prelude.{◌≡◌};
 
-use bus::{answer, free};
+use chip::Answer;
+use operands::{BadNumber, state_of};
 use state::fresh;
 
-const BAD_NUMBER: u32 = 3;
+// What C is told: the number of an answer, or of Bad number. Done comes most often, so it is asked first.
+fn number(answer: Result<Answer, BadNumber>) -> u32
+    ensures { result ≡ result_of (told answer) }
+{
+    match answer {
+        Ok(Answer::Done(value)) => 256 * (value as u32),
+        Ok(other) => answers::result(other),
+        Err(_) => answers::result(Answer::BadNumber),
+    }
+}
 
 pub fn am33c93a_image_length() -> u32
     ensures { result ≡ image_length }
@@ -23,60 +35,36 @@ pub fn am33c93a_image_length() -> u32
     image::LENGTH as u32
 }
 
+#[tactic(auto, unfolding(chip::specs::Entries::fresh_entered, chip::specs::Choice::pick))]
 pub fn am33c93a_fresh(image: &mut [u8]) -> u32
     ensures { (result ≡ (fresh_entered image.old).result) × (image.new ≡ (fresh_entered image.old).image) }
 {
-    if image.len() == image::LENGTH {
-        image::write(fresh::fresh(), image);
-        return 0;
+    if image.len() != image::LENGTH {
+        return number(Err(BadNumber::Image));
     }
-    BAD_NUMBER
+    image::write(fresh::fresh(), image);
+    number(Ok(Answer::Done(0)))
 }
 
 pub fn am33c93a_pointer(image: &mut [u8], mark: u32, byte: u32) -> u32
     ensures { (result ≡ (entered (Calls.pointer mark byte) image.old).result)
         × (image.new ≡ (entered (Calls.pointer mark byte) image.old).image) }
 {
-    if mark < 2 {
-        if byte < 256 {
-            if image::is_image(image) {
-                return in_place::pointer(mark, byte as u8, image);
-            }
-            return BAD_NUMBER;
-        }
-        return BAD_NUMBER;
-    }
-    BAD_NUMBER
+    number(calls::pointer(image, mark, byte))
 }
 
 pub fn am33c93a_auxiliary(image: &mut [u8]) -> u32
     ensures { (result ≡ (entered Calls.auxiliary image.old).result)
         × (image.new ≡ (entered Calls.auxiliary image.old).image) }
 {
-    if image::is_image(image) {
-        return in_place::auxiliary(image);
-    }
-    BAD_NUMBER
+    number(calls::auxiliary(image))
 }
 
 pub fn am33c93a_register(image: &mut [u8], mark: u32, byte: u32) -> u32
     ensures { (result ≡ (entered (Calls.register mark byte) image.old).result)
         × (image.new ≡ (entered (Calls.register mark byte) image.old).image) }
 {
-    if mark < 2 {
-        if byte < 256 {
-            if image::is_image(image) {
-                let writes = mark == 1;
-                if writes {
-                    return in_place::register_written(byte as u8, image);
-                }
-                return in_place::register_read(image);
-            }
-            return BAD_NUMBER;
-        }
-        return BAD_NUMBER;
-    }
-    BAD_NUMBER
+    number(calls::register(image, mark, byte))
 }
 
 pub fn am33c93a_block(image: &mut [u8], mark: u32, bytes: &mut [u8]) -> u32
@@ -84,92 +72,50 @@ pub fn am33c93a_block(image: &mut [u8], mark: u32, bytes: &mut [u8]) -> u32
         × (image.new ≡ (entered (Calls.block mark bytes.old) image.old).image)
         × (bytes.new ≡ (entered (Calls.block mark bytes.old) image.old).lent) }
 {
-    if mark < 2 {
-        if image::is_image(image) {
-            return in_place::block(mark, bytes, image);
-        }
-        return BAD_NUMBER;
-    }
-    BAD_NUMBER
+    number(calls::block(image, mark, bytes))
 }
 
 pub fn am33c93a_time(image: &mut [u8], units: u32) -> u32
     ensures { (result ≡ (entered (Calls.time units) image.old).result)
         × (image.new ≡ (entered (Calls.time units) image.old).image) }
 {
-    let fits = units < 256;
-    if fits {
-        if image::is_image(image) {
-            return in_place::time(units as u8, image);
-        }
-        return BAD_NUMBER;
-    }
-    BAD_NUMBER
+    number(calls::time(image, units))
 }
 
 pub fn am33c93a_answer(image: &mut [u8]) -> u32
     ensures { (result ≡ (entered Calls.answer image.old).result)
         × (image.new ≡ (entered Calls.answer image.old).image) }
 {
-    let reading = image::read(image);
-    if reading.ok {
-        let s = reading.state;
-        return finish::finish(answer::answered(s), image);
-    }
-    BAD_NUMBER
+    number(calls::answer(image))
 }
 
 pub fn am33c93a_reselection(image: &mut [u8], lines: u32) -> u32
     ensures { (result ≡ (entered (Calls.reselection lines) image.old).result)
         × (image.new ≡ (entered (Calls.reselection lines) image.old).image) }
 {
-    if lines < 256 {
-        if image::is_image(image) {
-            return in_place::reselection(lines as u8, image);
-        }
-        return BAD_NUMBER;
-    }
-    BAD_NUMBER
+    number(calls::reselection(image, lines))
 }
 
 pub fn am33c93a_request(image: &mut [u8], phase: u32, byte: u32, parity: u32) -> u32
     ensures { (result ≡ (entered (Calls.request phase byte parity) image.old).result)
         × (image.new ≡ (entered (Calls.request phase byte parity) image.old).image) }
 {
-    if phase < 8 {
-        if byte < 256 {
-            if parity < 2 {
-                if image::is_image(image) {
-                    return in_place::request(phase as u8, byte as u8, parity == 1, image);
-                }
-                return BAD_NUMBER;
-            }
-            return BAD_NUMBER;
-        }
-        return BAD_NUMBER;
-    }
-    BAD_NUMBER
+    number(calls::request(image, phase, byte, parity))
 }
 
 pub fn am33c93a_free(image: &mut [u8]) -> u32
     ensures { (result ≡ (entered Calls.free image.old).result)
         × (image.new ≡ (entered Calls.free image.old).image) }
 {
-    let reading = image::read(image);
-    if reading.ok {
-        let s = reading.state;
-        return finish::finish(free::freed(s), image);
-    }
-    BAD_NUMBER
+    number(calls::free(image))
 }
 
+#[tactic(auto, unfolding(chip::specs::Entries::lines_entered, chip::specs::Choice::pick))]
 pub fn am33c93a_lines(image: &[u8]) -> u32
     ensures { result ≡ lines_entered image.now }
 {
-    let reading = image::read(image);
-    if reading.ok {
-        let s = reading.state;
-        return driven::line_result(s);
+    match state_of(image) {
+        Ok(s) => driven::line_result(s),
+        Err(e) => number(Err(e)),
     }
-    BAD_NUMBER
 }

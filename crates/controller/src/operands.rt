@@ -1,0 +1,57 @@
+// The tests of what C passes: each gives the value, or says that the call is Bad number.
+#![tactic(auto, unfolding(chip::specs::Choice::pick))]
+
+ghost use Rattle.std.specs.Prelude.{◌≡◌, OnOk};
+ghost use Rattle.chip.specs.Calls.{is_bus_phase, is_byte, is_mark, is_set};
+ghost use Rattle.chip.specs.Image.{is_image, state_of};
+ghost use Rattle.chip.specs.Phases.{phase_of};
+ghost use Rattle.controller.specs.Operands.{tested};
+ghost use Rattle.image.specs.IsImage.{IsImage};
+
+use chip::{Phase, State};
+
+// What makes a call Bad number: bytes that are no state's image, or an operand out of its range.
+#[derive(Clone, Copy, PartialEq, Eq, Drop)]
+pub(crate) enum BadNumber {
+    Image,
+    Operand,
+}
+
+pub(crate) fn byte_of(number: u32) -> Result<u8, BadNumber>
+    ensures { result ≡ tested BadNumber.Operand (is_byte number) number }
+{
+    u8::try_from(number).map_err(|_| BadNumber::Operand)
+}
+
+// A mark: 1 writes, 0 reads. A parity: 1 is bad, 0 is good.
+pub(crate) fn mark_of(number: u32) -> Result<bool, BadNumber>
+    ensures { result ≡ tested BadNumber.Operand (is_mark number) (is_set number) }
+{
+    if number < 2 {
+        Ok(number == 1)
+    } else {
+        Err(BadNumber::Operand)
+    }
+}
+
+pub(crate) fn phase_of(number: u32) -> Result<Phase, BadNumber>
+    ensures { result ≡ tested BadNumber.Operand (is_bus_phase number) (phase_of number) }
+{
+    if number < 8 {
+        Ok(phases::phase_of(number as u8))
+    } else {
+        Err(BadNumber::Operand)
+    }
+}
+
+// The state whose image the bytes are.
+#[tactic(auto, using(crate::proofs::Entry::long_enough), unfolding(chip::specs::Choice::pick))]
+pub(crate) fn state_of(image: &[u8]) -> Result<State, BadNumber>
+    ensures { (result ≡ tested BadNumber.Image (is_image image.now) (state_of image.now)) × OnOk result (IsImage image.now) }
+{
+    if image::is_image(image) {
+        Ok(image::state(image))
+    } else {
+        Err(BadNumber::Image)
+    }
+}
