@@ -7,7 +7,7 @@ ghost use Rattle.controller.specs.Enters.{Enters};
 
 use crate::in_place;
 use crate::operands::{BadNumber, byte_of, mark_of, phase_of};
-use chip::Answer;
+use chip::{Answer, Request};
 
 pub(crate) fn pointer(image: &mut [u8], mark: u32, byte: u32) -> Result<Answer, BadNumber>
     ensures { Enters (Calls.pointer mark byte) result image.old image.new [] }
@@ -59,7 +59,12 @@ pub(crate) fn request(
 ) -> Result<Answer, BadNumber>
     ensures { Enters (Calls.request phase byte parity) result image.old image.new [] }
 {
-    in_place::request(phase_of(phase)?, byte_of(byte)?, mark_of(parity)?, image)
+    let request = Request {
+        phase: phase_of(phase)?,
+        byte: byte_of(byte)?,
+        bad: mark_of(parity)?,
+    };
+    in_place::request(request, image)
 }
 
 pub(crate) fn free(image: &mut [u8]) -> Result<Answer, BadNumber>

@@ -16,7 +16,7 @@ ghost use Rattle.image.specs.IsImage.{IsImage};
 
 use crate::operands::{BadNumber, state_of};
 use bus::{answer, free, request, reselection, time};
-use chip::{Answer, Phase, Reply, State};
+use chip::{Answer, Phase, Reply, Request, State};
 use image::{store, waiting};
 
 // The state that an image says.
@@ -106,11 +106,11 @@ fn written_whole(byte: u8, image: &mut [u8]) -> Answer
 
 // At most one byte came into the FIFO, so of its places that one's alone is stored.
 #[tactic(auto, using(chip::proofs::FifoSteps::requested_goes))]
-fn request_whole(phase: Phase, byte: u8, bad: bool, image: &mut [u8]) -> Answer
+fn request_whole(request: Request, image: &mut [u8]) -> Answer
     requires { IsImage image.old }
-    ensures { Returns (requested phase byte bad (state_of image.old)) result image.new }
+    ensures { Returns (requested request.phase request.byte request.bad (state_of image.old)) result image.new }
 {
-    let r = request::requested(phase, byte, bad, state(image));
+    let r = request::requested(request, state(image));
     image::write_on(r.state, image);
     r.answer
 }
@@ -246,7 +246,14 @@ fn request_in(byte: u8, image: &mut [u8]) -> Result<Answer, BadNumber>
 {
     let s = state_of(image)?;
     Ok(if !moves::takes_data(s) {
-        request_whole(Phase::DataIn, byte, false, image)
+        request_whole(
+            Request {
+                phase: Phase::DataIn,
+                byte,
+                bad: false,
+            },
+            image,
+        )
     } else if moves::has_room(s) {
         byte_taken(byte, image)
     } else {
@@ -261,7 +268,14 @@ fn request_out(byte: u8, bad: bool, image: &mut [u8]) -> Result<Answer, BadNumbe
 {
     let s = state_of(image)?;
     Ok(if !moves::sends_data(s) {
-        request_whole(Phase::DataOut, byte, bad, image)
+        request_whole(
+            Request {
+                phase: Phase::DataOut,
+                byte,
+                bad,
+            },
+            image,
+        )
     } else if moves::has_byte(s) {
         byte_sent(byte, bad, image)
     } else {
@@ -269,22 +283,16 @@ fn request_out(byte: u8, bad: bool, image: &mut [u8]) -> Result<Answer, BadNumbe
     })
 }
 
-pub(crate) fn request(
-    phase: Phase,
-    byte: u8,
-    bad: bool,
-    image: &mut [u8],
-) -> Result<Answer, BadNumber>
-    ensures { Serves (requested phase byte bad) result image.old image.new }
+pub(crate) fn request(request: Request, image: &mut [u8]) -> Result<Answer, BadNumber>
+    ensures { Serves (requested request.phase request.byte request.bad) result image.old image.new }
 {
-    // A `match` would ask for the other six phases first.
-    if matches!(phase, Phase::DataOut) {
-        request_out(byte, bad, image)
-    } else if matches!(phase, Phase::DataIn) && !bad {
-        request_in(byte, image)
+    if request.phase == Phase::DataOut {
+        request_out(request.byte, request.bad, image)
+    } else if request.phase == Phase::DataIn && !request.bad {
+        request_in(request.byte, image)
     } else {
         state_of(image)?;
-        Ok(request_whole(phase, byte, bad, image))
+        Ok(request_whole(request, image))
     }
 }
 
