@@ -7,6 +7,7 @@ ghost use Rattle.chip.specs.Answers.{number, value, says, ignored};
 
 use chip::{Answer, Reply, State};
 
+// `as u8` takes only an enum whose cases carry nothing, and Done carries a byte.
 pub fn number(a: Answer) -> u8
     ensures { result ≡ number a }
 {

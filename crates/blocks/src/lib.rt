@@ -11,6 +11,8 @@ ghost use Rattle.image.specs.IsImage.{IsImage};
 use chip::Direction;
 use image::waiting;
 
+// That the bytes are an image is required by each function, as in controller's in_place.rt, where the reason stands.
+
 // What an ending comes to once the FIFO is read out. Data comes in, so no byte of the FIFO changes.
 pub fn settle(image: &mut [u8])
     requires { IsImage image.old × ((state_of image.old).transfer.direction ≡ Direction.In) }

@@ -127,7 +127,7 @@ pub struct Status {
 }
 
 // Twelve places that go round. `held` bytes wait: the oldest in the place `first`, each younger one in the next. What stands in the other
-// places nobody asks.
+// places nobody asks. An array with its ends beside it, and no queue of the library: there is no heap, and the image has these bytes.
 #[derive(Clone, Copy)]
 pub struct Fifo {
     pub bytes: [u8; 12],

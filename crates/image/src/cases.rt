@@ -1,4 +1,5 @@
 // The bytes that stand for cases: for each type a function to the byte and one back. A flag and a direction are their numbers (`as u8`).
+// A From may stand only in the crate of a type, chip; and every byte has a case here, where a TryFrom would refuse some.
 ghost use Rattle.std.specs.Prelude.{◌≡◌};
 ghost use Rattle.chip.specs.Image.{direction_of, noted_byte, noted_of};
 

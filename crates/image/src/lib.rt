@@ -26,7 +26,8 @@ pub const LENGTH: usize = 54;
 // Where the FIFO's bytes begin.
 const FIFO: usize = 40;
 
-// What is pending goes with the command that runs. Mostly nothing is, so that is asked first.
+// What is pending goes with the command that runs. Mostly nothing is, so that is asked first. The three numbers are bytes 28, 29 and 31: a
+// struct for them would be made in one line and taken apart in the next.
 #[tactic(auto, unfolding(chip::specs::Activity::go_with, chip::specs::Choice::pick, chip::specs::Choice::both, chip::specs::Choice::either))]
 fn go_with(p: u8, k: u8, n: u8) -> bool
     ensures { result ≡ go_with p k n }

@@ -21,6 +21,7 @@ fn byte(at: usize, b: u8, image: &mut [u8])
     }
 }
 
+// Three fields by their names, so that only this file knows where each stands.
 pub fn pointer(b: u8, image: &mut [u8])
     ensures { image.new ≡ pick (eqb (length image.old) image_length) (set image.old 25 b) image.old }
 {

@@ -49,6 +49,7 @@ pub fn packed(int: bool, lci: bool, bsy: bool, pe: bool, dbr: bool) -> u8
     (int as u8) << 7 | (lci as u8) << 6 | (bsy as u8) << 5 | (pe as u8) << 1 | (dbr as u8)
 }
 
+// hsp, idi, er and is_single differ in the bit alone: each is one call of is_on, under the data sheet's name of that bit.
 #[tactic(auto, unfolding(chip::specs::Lines::hsp))]
 pub fn hsp(s: State) -> bool
     ensures { result ≡ hsp s }

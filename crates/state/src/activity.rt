@@ -41,6 +41,7 @@ pub fn running_number(a: Activity) -> u8
     }
 }
 
+// `as u8` takes only an enum whose cases carry nothing, and these carry commands.
 pub fn pending_number(a: Activity) -> u8
     ensures { result ≡ pending_number a }
 {
