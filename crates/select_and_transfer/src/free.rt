@@ -6,7 +6,7 @@ use answers::says;
 use chip::{Answer, Connection, Reply, State};
 use state::activity;
 
-#[tactic(auto, unfolding(chip::specs::SelectAndTransfer::free_after_disconnect, chip::specs::SelectAndTransfer::free_to_wait, chip::specs::Choice::pick, chip::specs::Interrupts::unless_interrupt))]
+#[tactic(auto, unfolding(chip::specs::SelectAndTransfer::free_after_disconnect, chip::specs::SelectAndTransfer::free_to_wait, chip::specs::Choice::pick))]
 fn free_after_disconnect(s: State, mut t: State) -> Reply
     ensures { result ≡ free_after_disconnect s t }
 {
@@ -20,7 +20,7 @@ fn free_after_disconnect(s: State, mut t: State) -> Reply
     says(Answer::Done(0), t)
 }
 
-#[tactic(auto, unfolding(chip::specs::SelectAndTransfer::select_and_transfer_free, chip::specs::Choice::pick, chip::specs::Interrupts::unless_interrupt))]
+#[tactic(auto, unfolding(chip::specs::SelectAndTransfer::select_and_transfer_free, chip::specs::Choice::pick))]
 pub fn freed(s: State, mut t: State) -> Reply
     ensures { result ≡ select_and_transfer_free s t }
 {

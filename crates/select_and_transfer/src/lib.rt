@@ -37,18 +37,18 @@ fn send_identify(p: Phase, mut s: State) -> Reply
     says(Answer::Done(byte), s)
 }
 
-// x is how many command bytes were taken, so it is below the longest command's 12. For the index the twelve bytes are copied, not the state.
+// x is how many command bytes were taken, so it is below the longest command's 12.
 #[tactic(auto, unfolding(chip::specs::SelectAndTransfer::send_command, chip::specs::Choice::pick))]
-fn send_command(x: u8, p: Phase, mut s: State) -> Reply
+fn send_command(x: u8, p: Phase, s: State) -> Reply
     requires { x < 12 }
     ensures { result ≡ send_command x p s }
 {
     if p != Phase::CommandOut {
         return take::unexpected(p, s);
     }
-    let cdb = s.registers.descriptor.cdb;
-    s.registers.descriptor.phase = 0x31 + x;
-    says(Answer::Done(cdb[x as usize]), s)
+    let mut t = s;
+    t.registers.descriptor.phase = 0x31 + x;
+    says(Answer::Done(s.registers.descriptor.cdb[x as usize]), t)
 }
 
 #[tactic(auto, unfolding(chip::specs::SelectAndTransfer::phase_after, chip::specs::Choice::pick))]

@@ -7,7 +7,7 @@ ghost use Rattle.chip.specs.SelectAndTransfer.{take_complete, take_identify, tak
 use answers::says;
 use chip::{Answer, Phase, Reply, Request, State};
 
-#[tactic(auto, unfolding(chip::specs::SelectAndTransfer::unexpected, chip::specs::Interrupts::unless_interrupt, chip::specs::Choice::pick))]
+#[tactic(auto, unfolding(chip::specs::SelectAndTransfer::unexpected))]
 pub fn unexpected(p: Phase, mut s: State) -> Reply
     ensures { result ≡ unexpected p s }
 {
@@ -30,7 +30,7 @@ pub(crate) fn unless_halted(request: Request, s: State, t: State) -> Reply
     }
 }
 
-#[tactic(auto, unfolding(chip::specs::SelectAndTransfer::take_status, chip::specs::Choice::pick))]
+#[tactic(auto, unfolding(chip::specs::SelectAndTransfer::take_status))]
 pub fn status(request: Request, s: State) -> Reply
     ensures { result ≡ take_status request.byte request.bad s }
 {
@@ -41,7 +41,7 @@ pub fn status(request: Request, s: State) -> Reply
 }
 
 // Save Data Pointer (02) or Disconnect (04).
-#[tactic(auto, unfolding(chip::specs::SelectAndTransfer::take_message, chip::specs::SelectAndTransfer::take_save, chip::specs::SelectAndTransfer::take_disconnect, chip::specs::Interrupts::unless_interrupt, chip::specs::Choice::pick))]
+#[tactic(auto, unfolding(chip::specs::SelectAndTransfer::take_message, chip::specs::SelectAndTransfer::take_save, chip::specs::SelectAndTransfer::take_disconnect, chip::specs::Choice::pick))]
 pub fn message(request: Request, s: State) -> Reply
     ensures { result ≡ take_message request.byte request.bad s }
 {
@@ -74,7 +74,7 @@ pub fn identify(request: Request, s: State) -> Reply
 }
 
 // Command Complete (00).
-#[tactic(auto, unfolding(chip::specs::SelectAndTransfer::take_complete, chip::specs::SelectAndTransfer::completed, chip::specs::Interrupts::unless_interrupt, chip::specs::Choice::pick, chip::specs::Choice::both))]
+#[tactic(auto, unfolding(chip::specs::SelectAndTransfer::take_complete, chip::specs::SelectAndTransfer::completed, chip::specs::Choice::pick, chip::specs::Choice::both))]
 pub fn complete(request: Request, s: State) -> Reply
     ensures { result ≡ take_complete request.phase request.byte request.bad s }
 {
