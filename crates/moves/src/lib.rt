@@ -55,7 +55,7 @@ fn is_under_way(s: State) -> bool
 }
 
 // The running command moves data: a Select-And-Transfer that expects data, where its direction is fixed that way, or a Transfer Info in
-// the phase p.
+// the phase p. takes_data and sends_data ask it for one way each, under the names of chip's definitions.
 #[tactic(auto, unfolding(chip::specs::Choice::both, chip::specs::Choice::pick))]
 fn carries(fixed: bool, p: Phase, s: State) -> bool
     ensures { result ≡ pick (is_select_and_transfer s.activity) (both fixed (is_body (stage s)))
@@ -68,7 +68,7 @@ fn carries(fixed: bool, p: Phase, s: State) -> bool
     }
 }
 
-// The FIFO as the entries ask for it, by a state.
+// Whether the FIFO has room, or a byte, as the entries of controller ask it of a state.
 pub fn has_room(s: State) -> bool
     ensures { result ≡ has_room s.fifo }
 {

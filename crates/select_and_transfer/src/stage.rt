@@ -6,8 +6,8 @@ ghost use Rattle.chip.specs.SelectAndTransfer.{has_size, size, stage};
 use chip::{Stage, State};
 use state::activity;
 
-// By the top three bits of CDB byte 1. A group that has no size gets 0 and no None, as its definition says: no number of bytes taken is
-// below 0, so that stage and has_size need no case of it.
+// By the top three bits of CDB byte 1. A group that has no size gets 0, not None, as the definition says: no number of bytes taken is
+// below 0, so that stage and has_size need no case for it.
 #[tactic(auto, unfolding(chip::specs::SelectAndTransfer::size, chip::specs::SelectAndTransfer::size_of, chip::specs::Choice::pick))]
 pub fn size(s: State) -> u8
     ensures { (result ≡ size s) × (result ≤ 12) }
