@@ -55,14 +55,12 @@ pub fn empty() -> Fifo
 }
 
 // What waited is dropped.
-pub fn emptied(q: Fifo) -> Fifo
+pub fn emptied(mut q: Fifo) -> Fifo
     ensures { result ≡ emptied q }
 {
-    Fifo {
-        first: 0,
-        held: 0,
-        ..q
-    }
+    q.first = 0;
+    q.held = 0;
+    q
 }
 
 #[tactic(auto, unfolding(chip::specs::Fifo::waits))]
@@ -105,28 +103,24 @@ pub fn front(q: Fifo) -> u8
 }
 
 #[tactic(auto, unfolding(chip::specs::Fifo::pop, chip::specs::Choice::pick, chip::specs::Fifo::is_empty))]
-pub fn pop(q: Fifo) -> Fifo
+pub fn pop(mut q: Fifo) -> Fifo
     ensures { result ≡ pop q }
 {
-    if q.held == 0 {
-        return q;
+    if q.held != 0 {
+        q.first = behind(q.first, 1);
+        q.held -= 1;
     }
-    Fifo {
-        first: behind(q.first, 1),
-        held: q.held - 1,
-        ..q
-    }
+    q
 }
 
 #[tactic(auto, unfolding(chip::specs::Fifo::push, chip::specs::Fifo::has_room, chip::specs::Fifo::place_behind, chip::specs::Choice::pick))]
-pub fn push(b: u8, q: Fifo) -> Fifo
+pub fn push(b: u8, mut q: Fifo) -> Fifo
     ensures { result ≡ push b q }
 {
-    let mut more = q;
     if q.held < 12 {
         let at = behind(q.first, q.held) as usize;
-        more.bytes[at] = b;
-        more.held += 1;
+        q.bytes[at] = b;
+        q.held += 1;
     }
-    more
+    q
 }

@@ -29,5 +29,8 @@ pub(crate) fn noted_byte(p: Option<Phase>) -> u8
 pub(crate) fn noted_of(n: u8) -> Option<Phase>
     ensures { result ≡ noted_of n }
 {
-    n.checked_sub(1).map(phases::phase_of)
+    match n {
+        0 => None,
+        _ => Some(phases::phase_of(n - 1)),
+    }
 }
