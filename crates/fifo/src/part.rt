@@ -1,5 +1,6 @@
 // The FIFO's part of the image: how many bytes wait, the place of the oldest, then the twelve places (chip's fifo_bytes). A byte that comes
 // or goes is stored there with the ends, and no other place is. Bytes of another length are no FIFO's, and stay as they are.
+// Each function tests the length itself: an array out of the slice would be a line more in each, and no index fewer.
 ghost use Rattle.std.specs.Prelude.{◌≡◌, eqb, length, set};
 ghost use Rattle.chip.specs.Choice.{pick};
 ghost use Rattle.chip.specs.Fifo.{empty, ends_over, fifo_bytes, fifo_length, fifo_of, front, pop, push};

@@ -45,7 +45,7 @@ pub fn count_low(b: u8, image: &mut [u8])
     byte(20, b, image);
 }
 
-// The phase of the last Request answered, as its byte.
+// The phase of the last Request answered, as its byte: any byte, since the promise is made of every one.
 pub fn last(b: u8, image: &mut [u8])
     ensures { image.new ≡ pick (eqb (length image.old) image_length) (set image.old 37 b) image.old }
 {

@@ -1,5 +1,6 @@
 // The waiting bytes, in the image itself: only the FIFO's part is looked at, and of it only the byte that moves and the ends are stored
 // (room fifo). Bytes of another length than an image's hold no byte, and stay as they are (specs/Waiting.antt).
+// Each function tests the length itself: a function that lends the FIFO's part, or takes a closure for it, would make none of them shorter.
 ghost use Rattle.std.specs.Prelude.{◌≡◌, ◌++◌, eqb, length, take};
 ghost use Rattle.chip.specs.Choice.{pick};
 ghost use Rattle.chip.specs.Fifo.{fifo_bytes, front, pop, push};
