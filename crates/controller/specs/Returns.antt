@@ -2,6 +2,7 @@
 -- are Bad number, and stay as they are.
 use Rattle.std.specs.Prelude.{◌≡◌, ℕ, List, Result}
 use Rattle.chip.specs.Choice.{pick}
+use Rattle.chip.specs.Entries.{result_of}
 use Rattle.chip.specs.Image.{is_image, image_of, state_of}
 use Rattle.chip.specs.Registers.{Moved}
 use Rattle.chip.specs.declared.Answer.{Answer}
@@ -17,13 +18,18 @@ pub record Returns (p : Reply) (a : Answer) (after : List ℕ) : Type 0 where
   pub answer : a ≡ p.answer
   pub image : after ≡ image_of p.state
 
+-- the same, with the answer as its number
+pub record Tells (p : Reply) (n : ℕ) (after : List ℕ) : Type 0 where
+  pub number : n ≡ result_of p.answer
+  pub image : after ≡ image_of p.state
+
 -- the call f on the bytes l
-pub record Serves (f : State → Reply) (r : Result Answer BadNumber) (l after : List ℕ) : Type 0 where
-  pub answer : r ≡ tested Image (is_image l) (f (state_of l)).answer
+pub record Serves (f : State → Reply) (r : Result ℕ BadNumber) (l after : List ℕ) : Type 0 where
+  pub number : r ≡ tested Image (is_image l) (result_of (f (state_of l)).answer)
   pub image : after ≡ pick (is_image l) (image_of (f (state_of l)).state) l
 
 -- the block move f, which is lent the bytes d and leaves d' there
-pub record ServesBlock (f : State → Moved) (r : Result Answer BadNumber) (l after d d' : List ℕ) : Type 0 where
-  pub answer : r ≡ tested Image (is_image l) (Done (f (state_of l)).number)
+pub record ServesBlock (f : State → Moved) (r : Result ℕ BadNumber) (l after d d' : List ℕ) : Type 0 where
+  pub number : r ≡ tested Image (is_image l) (result_of (Done (f (state_of l)).number))
   pub image : after ≡ pick (is_image l) (image_of (f (state_of l)).state) l
   pub bytes : d' ≡ pick (is_image l) (f (state_of l)).bytes d

@@ -7,45 +7,45 @@ ghost use Rattle.controller.specs.Enters.{Enters};
 
 use crate::in_place;
 use crate::operands::{BadNumber, byte_of, mark_of, phase_of};
-use chip::{Answer, Request};
+use chip::Request;
 
-pub(crate) fn pointer(image: &mut [u8], mark: u32, byte: u32) -> Result<Answer, BadNumber>
+pub(crate) fn pointer(image: &mut [u8], mark: u32, byte: u32) -> Result<u32, BadNumber>
     ensures { Enters (Calls.pointer mark byte) result image.old image.new [] }
 {
     in_place::pointer(mark_of(mark)?, byte_of(byte)?, image)
 }
 
-pub(crate) fn auxiliary(image: &mut [u8]) -> Result<Answer, BadNumber>
+pub(crate) fn auxiliary(image: &mut [u8]) -> Result<u32, BadNumber>
     ensures { Enters Calls.auxiliary result image.old image.new [] }
 {
     in_place::auxiliary(image)
 }
 
-pub(crate) fn register(image: &mut [u8], mark: u32, byte: u32) -> Result<Answer, BadNumber>
+pub(crate) fn register(image: &mut [u8], mark: u32, byte: u32) -> Result<u32, BadNumber>
     ensures { Enters (Calls.register mark byte) result image.old image.new [] }
 {
     in_place::register(mark_of(mark)?, byte_of(byte)?, image)
 }
 
-pub(crate) fn block(image: &mut [u8], mark: u32, bytes: &mut [u8]) -> Result<Answer, BadNumber>
+pub(crate) fn block(image: &mut [u8], mark: u32, bytes: &mut [u8]) -> Result<u32, BadNumber>
     ensures { Enters (Calls.block mark bytes.old) result image.old image.new bytes.new }
 {
     in_place::block(mark_of(mark)?, bytes, image)
 }
 
-pub(crate) fn time(image: &mut [u8], units: u32) -> Result<Answer, BadNumber>
+pub(crate) fn time(image: &mut [u8], units: u32) -> Result<u32, BadNumber>
     ensures { Enters (Calls.time units) result image.old image.new [] }
 {
     in_place::time(byte_of(units)?, image)
 }
 
-pub(crate) fn answer(image: &mut [u8]) -> Result<Answer, BadNumber>
+pub(crate) fn answer(image: &mut [u8]) -> Result<u32, BadNumber>
     ensures { Enters Calls.answer result image.old image.new [] }
 {
     in_place::answer(image)
 }
 
-pub(crate) fn reselection(image: &mut [u8], lines: u32) -> Result<Answer, BadNumber>
+pub(crate) fn reselection(image: &mut [u8], lines: u32) -> Result<u32, BadNumber>
     ensures { Enters (Calls.reselection lines) result image.old image.new [] }
 {
     in_place::reselection(byte_of(lines)?, image)
@@ -56,7 +56,7 @@ pub(crate) fn request(
     phase: u32,
     byte: u32,
     parity: u32,
-) -> Result<Answer, BadNumber>
+) -> Result<u32, BadNumber>
     ensures { Enters (Calls.request phase byte parity) result image.old image.new [] }
 {
     let request = Request {
@@ -67,7 +67,7 @@ pub(crate) fn request(
     in_place::request(request, image)
 }
 
-pub(crate) fn free(image: &mut [u8]) -> Result<Answer, BadNumber>
+pub(crate) fn free(image: &mut [u8]) -> Result<u32, BadNumber>
     ensures { Enters Calls.free result image.old image.new [] }
 {
     in_place::free(image)

@@ -11,10 +11,11 @@ ghost use Rattle.chip.specs.Fifo.{has_room, is_empty};
 ghost use Rattle.chip.specs.Image.{state_of};
 ghost use Rattle.chip.specs.Moves.{is_plain, reads_data, sends_data, takes_data, writes_data};
 ghost use Rattle.chip.specs.Registers.{accessed, auxiliary_read, block_read, block_written, pointer_read, pointer_set};
-ghost use Rattle.controller.specs.Returns.{Returns, Serves, ServesBlock};
+ghost use Rattle.controller.specs.Returns.{Returns, Serves, ServesBlock, Tells};
 ghost use Rattle.image.specs.IsImage.{IsImage};
 
 use crate::operands::{BadNumber, state_of};
+use answers::result;
 use bus::{answer, free, request, reselection, time};
 use chip::{Answer, Phase, Reply, Request, State};
 use image::{store, waiting};
@@ -150,155 +151,158 @@ fn byte_sent(byte: u8, bad: bool, image: &mut [u8]) -> Answer
     Answer::Done(value)
 }
 
-// The calls. Each tests the image before all else.
+// The calls. Each tests the image before all else. Where several ways meet, each makes its answer the number that C is told: with one
+// place for all of them behind the last, a Request takes a tenth more.
 
 #[tactic(auto, using(crate::proofs::Steps::pointer_stored_made), unfolding(chip::specs::Registers::pointer_read, chip::specs::Registers::pointer_set, chip::specs::Choice::pick))]
-pub(crate) fn pointer(writes: bool, byte: u8, image: &mut [u8]) -> Result<Answer, BadNumber>
+pub(crate) fn pointer(writes: bool, byte: u8, image: &mut [u8]) -> Result<u32, BadNumber>
     ensures { Serves (λ s. pick writes (pointer_set byte s) (pointer_read s)) result image.old image.new }
 {
     let s = state_of(image)?;
     if writes {
         store::pointer(byte, image);
-        return Ok(Answer::Done(0));
+        return Ok(result(Answer::Done(0)));
     }
-    Ok(Answer::Done(s.status.pointer))
+    Ok(result(Answer::Done(s.status.pointer)))
 }
 
 #[tactic(auto, unfolding(chip::specs::Registers::auxiliary_read, chip::specs::Choice::pick))]
-pub(crate) fn auxiliary(image: &mut [u8]) -> Result<Answer, BadNumber>
+pub(crate) fn auxiliary(image: &mut [u8]) -> Result<u32, BadNumber>
     ensures { Serves auxiliary_read result image.old image.new }
 {
     let s = state_of(image)?;
-    Ok(host::auxiliary_read(s).answer)
+    Ok(result(host::auxiliary_read(s).answer))
 }
 
 #[tactic(auto, using(crate::proofs::Steps::read_alike, chip::proofs::Moves::nothing_read, chip::proofs::Moves::nothing_written), unfolding(chip::specs::Choice::pick))]
-pub(crate) fn register(writes: bool, byte: u8, image: &mut [u8]) -> Result<Answer, BadNumber>
+pub(crate) fn register(writes: bool, byte: u8, image: &mut [u8]) -> Result<u32, BadNumber>
     ensures { Serves (accessed writes byte) result image.old image.new }
 {
     let s = state_of(image)?;
     Ok(if moves::is_plain(s) {
         if writes {
-            plain_written(byte, image)
+            result(plain_written(byte, image))
         } else {
-            plain_read(image)
+            result(plain_read(image))
         }
     } else if writes && moves::writes_data(s) {
-        data_written(byte, image)
+        result(data_written(byte, image))
     } else if !writes && moves::reads_data(s) {
-        data_read(image)
+        result(data_read(image))
     } else if moves::is_at_data(s) {
-        Answer::NoDataNow
+        result(Answer::NoDataNow)
     } else if writes {
-        written_whole(byte, image)
+        result(written_whole(byte, image))
     } else {
-        read_whole(image)
+        result(read_whole(image))
     })
 }
 
 #[tactic(auto, using(blocks::proofs::Blocks::written_bytes), unfolding(chip::specs::Choice::pick))]
-pub(crate) fn block(writes: bool, bytes: &mut [u8], image: &mut [u8]) -> Result<Answer, BadNumber>
+pub(crate) fn block(writes: bool, bytes: &mut [u8], image: &mut [u8]) -> Result<u32, BadNumber>
     ensures { ServesBlock (λ s. pick writes (block_written bytes.old s) (block_read bytes.old s)) result image.old image.new bytes.old bytes.new }
 {
     state_of(image)?;
-    Ok(Answer::Done(if writes {
+    Ok(result(Answer::Done(if writes {
         blocks::block_written(image, bytes)
     } else {
         blocks::block_read(image, bytes)
-    }))
+    })))
 }
 
 // Time counts only where a selection runs.
 #[tactic(auto, unfolding(chip::specs::Events::passed, chip::specs::Choice::pick))]
-pub(crate) fn time(units: u8, image: &mut [u8]) -> Result<Answer, BadNumber>
+pub(crate) fn time(units: u8, image: &mut [u8]) -> Result<u32, BadNumber>
     ensures { Serves (passed units) result image.old image.new }
 {
     let s = state_of(image)?;
     if !time::selects(s) {
-        return Ok(Answer::Done(0));
+        return Ok(result(Answer::Done(0)));
     }
-    Ok(finish(time::passed(units, s), image))
+    Ok(result(finish(time::passed(units, s), image)))
 }
 
-pub(crate) fn answer(image: &mut [u8]) -> Result<Answer, BadNumber>
+pub(crate) fn answer(image: &mut [u8]) -> Result<u32, BadNumber>
     ensures { Serves answered result image.old image.new }
 {
     let s = state_of(image)?;
-    Ok(finish(answer::answered(s), image))
+    Ok(result(finish(answer::answered(s), image)))
 }
 
 // A reselection that names another is not for us, and changes nothing.
 #[tactic(auto, unfolding(chip::specs::Events::reselected, chip::specs::Choice::pick))]
-pub(crate) fn reselection(data_lines: u8, image: &mut [u8]) -> Result<Answer, BadNumber>
+pub(crate) fn reselection(data_lines: u8, image: &mut [u8]) -> Result<u32, BadNumber>
     ensures { Serves (reselected data_lines) result image.old image.new }
 {
     let s = state_of(image)?;
     if !lines::qualifies(data_lines, s) {
-        return Ok(Answer::ReselectionIgnored);
+        return Ok(result(Answer::ReselectionIgnored));
     }
-    Ok(finish(reselection::reselected(data_lines, s), image))
+    Ok(result(finish(reselection::reselected(data_lines, s), image)))
 }
 
 // A Request of Data In with good parity.
-#[tactic(auto, using(chip::proofs::Moves::in_held), unfolding(chip::specs::Choice::pick))]
-fn request_in(byte: u8, image: &mut [u8]) -> Result<Answer, BadNumber>
-    ensures { Serves (requested Phase.DataIn byte false) result image.old image.new }
+#[tactic(auto, using(chip::proofs::Moves::in_held))]
+fn request_in(byte: u8, image: &mut [u8]) -> u32
+    requires { IsImage image.old }
+    ensures { Tells (requested Phase.DataIn byte false (state_of image.old)) result image.new }
 {
-    let s = state_of(image)?;
-    Ok(if !moves::takes_data(s) {
-        request_whole(
+    let s = state(image);
+    if !moves::takes_data(s) {
+        result(request_whole(
             Request {
                 phase: Phase::DataIn,
                 byte,
                 bad: false,
             },
             image,
-        )
+        ))
     } else if moves::has_room(s) {
-        byte_taken(byte, image)
+        result(byte_taken(byte, image))
     } else {
-        Answer::Held
-    })
+        result(Answer::Held)
+    }
 }
 
 // A Request of Data Out.
-#[tactic(auto, using(chip::proofs::Moves::out_held), unfolding(chip::specs::Choice::pick))]
-fn request_out(byte: u8, bad: bool, image: &mut [u8]) -> Result<Answer, BadNumber>
-    ensures { Serves (requested Phase.DataOut byte bad) result image.old image.new }
+#[tactic(auto, using(chip::proofs::Moves::out_held))]
+fn request_out(byte: u8, bad: bool, image: &mut [u8]) -> u32
+    requires { IsImage image.old }
+    ensures { Tells (requested Phase.DataOut byte bad (state_of image.old)) result image.new }
 {
-    let s = state_of(image)?;
-    Ok(if !moves::sends_data(s) {
-        request_whole(
+    let s = state(image);
+    if !moves::sends_data(s) {
+        result(request_whole(
             Request {
                 phase: Phase::DataOut,
                 byte,
                 bad,
             },
             image,
-        )
+        ))
     } else if moves::has_byte(s) {
-        byte_sent(byte, bad, image)
+        result(byte_sent(byte, bad, image))
     } else {
-        Answer::Held
-    })
+        result(Answer::Held)
+    }
 }
 
-pub(crate) fn request(request: Request, image: &mut [u8]) -> Result<Answer, BadNumber>
+pub(crate) fn request(request: Request, image: &mut [u8]) -> Result<u32, BadNumber>
     ensures { Serves (requested request.phase request.byte request.bad) result image.old image.new }
 {
-    if request.phase == Phase::DataOut {
+    state_of(image)?;
+    Ok(if request.phase == Phase::DataOut {
         request_out(request.byte, request.bad, image)
     } else if request.phase == Phase::DataIn && !request.bad {
         request_in(request.byte, image)
     } else {
-        state_of(image)?;
-        Ok(request_whole(request, image))
-    }
+        result(request_whole(request, image))
+    })
 }
 
-pub(crate) fn free(image: &mut [u8]) -> Result<Answer, BadNumber>
+pub(crate) fn free(image: &mut [u8]) -> Result<u32, BadNumber>
     ensures { Serves freed result image.old image.new }
 {
     let s = state_of(image)?;
-    Ok(finish(free::freed(s), image))
+    Ok(result(finish(free::freed(s), image)))
 }

@@ -9,7 +9,7 @@ mod in_place; // in_place.rt: the calls on the lent bytes
 mod operands; // operands.rt: the tests of what C passes
 
 ghost use Rattle.chip.specs.Calls as Calls;
-ghost use Rattle.chip.specs.Entries.{entered, fresh_entered, lines_entered, result_of};
+ghost use Rattle.chip.specs.Entries.{entered, fresh_entered, lines_entered};
 ghost use Rattle.chip.specs.Image.{image_length};
 ghost use Rattle.controller.specs.Enters.{told};
 ghost use Rattle.std.specs.Prelude.{◌≡◌};
@@ -18,15 +18,11 @@ use chip::Answer;
 use operands::{BadNumber, state_of};
 use state::fresh;
 
-// What C is told: the number of an answer, or of Bad number. Done comes most often, so it is asked first.
-fn number(answer: Result<Answer, BadNumber>) -> u32
-    ensures { result ≡ result_of (told answer) }
+// What C is told where a call is Bad number, too.
+fn told(number: Result<u32, BadNumber>) -> u32
+    ensures { result ≡ told number }
 {
-    match answer {
-        Ok(Answer::Done(value)) => 256 * (value as u32),
-        Ok(other) => answers::result(other),
-        Err(_) => answers::result(Answer::BadNumber),
-    }
+    number.unwrap_or(answers::result(Answer::BadNumber))
 }
 
 pub fn am33c93a_image_length() -> u32
@@ -40,31 +36,31 @@ pub fn am33c93a_fresh(image: &mut [u8]) -> u32
     ensures { (result ≡ (fresh_entered image.old).result) × (image.new ≡ (fresh_entered image.old).image) }
 {
     if image.len() != image::LENGTH {
-        return number(Err(BadNumber::Image));
+        return answers::result(Answer::BadNumber);
     }
     image::write(fresh::fresh(), image);
-    number(Ok(Answer::Done(0)))
+    answers::result(Answer::Done(0))
 }
 
 pub fn am33c93a_pointer(image: &mut [u8], mark: u32, byte: u32) -> u32
     ensures { (result ≡ (entered (Calls.pointer mark byte) image.old).result)
         × (image.new ≡ (entered (Calls.pointer mark byte) image.old).image) }
 {
-    number(calls::pointer(image, mark, byte))
+    told(calls::pointer(image, mark, byte))
 }
 
 pub fn am33c93a_auxiliary(image: &mut [u8]) -> u32
     ensures { (result ≡ (entered Calls.auxiliary image.old).result)
         × (image.new ≡ (entered Calls.auxiliary image.old).image) }
 {
-    number(calls::auxiliary(image))
+    told(calls::auxiliary(image))
 }
 
 pub fn am33c93a_register(image: &mut [u8], mark: u32, byte: u32) -> u32
     ensures { (result ≡ (entered (Calls.register mark byte) image.old).result)
         × (image.new ≡ (entered (Calls.register mark byte) image.old).image) }
 {
-    number(calls::register(image, mark, byte))
+    told(calls::register(image, mark, byte))
 }
 
 pub fn am33c93a_block(image: &mut [u8], mark: u32, bytes: &mut [u8]) -> u32
@@ -72,42 +68,42 @@ pub fn am33c93a_block(image: &mut [u8], mark: u32, bytes: &mut [u8]) -> u32
         × (image.new ≡ (entered (Calls.block mark bytes.old) image.old).image)
         × (bytes.new ≡ (entered (Calls.block mark bytes.old) image.old).lent) }
 {
-    number(calls::block(image, mark, bytes))
+    told(calls::block(image, mark, bytes))
 }
 
 pub fn am33c93a_time(image: &mut [u8], units: u32) -> u32
     ensures { (result ≡ (entered (Calls.time units) image.old).result)
         × (image.new ≡ (entered (Calls.time units) image.old).image) }
 {
-    number(calls::time(image, units))
+    told(calls::time(image, units))
 }
 
 pub fn am33c93a_answer(image: &mut [u8]) -> u32
     ensures { (result ≡ (entered Calls.answer image.old).result)
         × (image.new ≡ (entered Calls.answer image.old).image) }
 {
-    number(calls::answer(image))
+    told(calls::answer(image))
 }
 
 pub fn am33c93a_reselection(image: &mut [u8], lines: u32) -> u32
     ensures { (result ≡ (entered (Calls.reselection lines) image.old).result)
         × (image.new ≡ (entered (Calls.reselection lines) image.old).image) }
 {
-    number(calls::reselection(image, lines))
+    told(calls::reselection(image, lines))
 }
 
 pub fn am33c93a_request(image: &mut [u8], phase: u32, byte: u32, parity: u32) -> u32
     ensures { (result ≡ (entered (Calls.request phase byte parity) image.old).result)
         × (image.new ≡ (entered (Calls.request phase byte parity) image.old).image) }
 {
-    number(calls::request(image, phase, byte, parity))
+    told(calls::request(image, phase, byte, parity))
 }
 
 pub fn am33c93a_free(image: &mut [u8]) -> u32
     ensures { (result ≡ (entered Calls.free image.old).result)
         × (image.new ≡ (entered Calls.free image.old).image) }
 {
-    number(calls::free(image))
+    told(calls::free(image))
 }
 
 #[tactic(auto, unfolding(chip::specs::Entries::lines_entered, chip::specs::Choice::pick))]
@@ -116,6 +112,6 @@ pub fn am33c93a_lines(image: &[u8]) -> u32
 {
     match state_of(image) {
         Ok(s) => driven::line_result(s),
-        Err(e) => number(Err(e)),
+        Err(_) => answers::result(Answer::BadNumber),
     }
 }
