@@ -1,7 +1,7 @@
 // The calls on the lent bytes. Those that room moves names store only the bytes that change; every other call is made on the state, and
 // the whole image is written.
 // `requires { IsImage image.old }` stands in each helper: a struct around the `&mut [u8]` with that as its ghost field would have to be
-// an image again after each single store.
+// proved an image again after each single store.
 #![tactic(auto, unfolding(chip::specs::Choice::pick))]
 
 ghost use Rattle.std.specs.Prelude.{◌≡◌, ◌-◌, ◌%◌, ◌≤◌, true, false};
@@ -240,6 +240,8 @@ pub(crate) fn reselection(data_lines: u8, image: &mut [u8]) -> Result<u32, BadNu
     }
     Ok(result(finish(reselection::reselected(data_lines, s), image)))
 }
+
+// The two ways of data are two functions: one for both would ask for the phase again at each step.
 
 // A Request of Data In with good parity.
 #[tactic(auto, using(chip::proofs::Moves::in_held))]

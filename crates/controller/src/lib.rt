@@ -106,6 +106,7 @@ pub fn am33c93a_free(image: &mut [u8]) -> u32
     told(calls::free(image))
 }
 
+// The lines are up to eleven bits, more than an Answer carries.
 #[tactic(auto, unfolding(chip::specs::Entries::lines_entered, chip::specs::Choice::pick))]
 pub fn am33c93a_lines(image: &[u8]) -> u32
     ensures { result ≡ lines_entered image.now }
