@@ -19,7 +19,7 @@ use std::num::NonZeroU8;
 struct Bench {
     device: Device,
     session: Option<NonZeroU8>,
-    first: FirstReads,
+    reads: FirstReads,
     calls: u64,
     wrong: u64,
 }
@@ -29,7 +29,7 @@ impl Bench {
         Bench {
             device: Device::zeroed(),
             session: None,
-            first: FirstReads::none(),
+            reads: FirstReads::none(),
             calls: 0,
             wrong: 0,
         }
@@ -70,7 +70,7 @@ impl Bench {
         say_reply(verb, reply, before, self.device.block());
         // A code counts as read where its interrupt was pending.
         if verb == Some(Verb::Code) && before & 0x80 != 0 {
-            self.first.note(reply.value, self.session);
+            self.reads.note(reply.value, self.session);
         }
         self.compare(reply == Reply::expected(rest), rest);
     }
@@ -104,13 +104,13 @@ impl Bench {
 
     fn finish(&self) {
         say(b"\n\nEvery status code, and the session in which a driver first reads it:\n");
-        self.first.say_all();
+        self.reads.say_all();
         say(b"\n");
         names::say_decimal(self.calls);
         say(b" lines, ");
         names::say_decimal(self.wrong);
         say(b" answered otherwise than the papers say; ");
-        self.first.say_count();
+        self.reads.say_count();
         say(b" status codes read\n");
     }
 }
