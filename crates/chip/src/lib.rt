@@ -156,14 +156,15 @@ pub struct Seen {
     pub last: Option<Phase>,
 }
 
-// The bus: the connection, the lines and phases above, our identity, and the units of time that have added up while selecting.
+// The bus: the lines and phases above, our identity, the units of time that have added up while selecting, and the connection. It stands
+// last, beside the activity: with eight bytes after it, a copy with another connection would keep those as one number.
 #[derive(Clone, Copy)]
 pub struct Wire {
-    pub connection: Connection,
     pub handshake: Handshake,
     pub seen: Seen,
     pub identity: Identity,
     pub elapsed: u8,
+    pub connection: Connection,
 }
 
 #[derive(Clone, Copy)]
