@@ -83,7 +83,12 @@ const TABLE: [Entry; 34] = [
 pub fn entry_of(n: u8) -> Entry
     ensures { result ≡ entry_of n }
 {
-    TABLE.get(n as usize).copied().unwrap_or(LEFT_OUT)
+    // Not TABLE.get: an Option of a reference is laid out for 64 bits in the module, and boards of 32 bits run it.
+    if (n as usize) < TABLE.len() {
+        TABLE[n as usize]
+    } else {
+        LEFT_OUT
+    }
 }
 
 // The command counts as Level II.

@@ -86,9 +86,11 @@ pub fn has_room(q: Fifo) -> bool
 pub fn front(q: Fifo) -> u8
     ensures { result ≡ front q }
 {
-    match q.bytes.get(q.first as usize) {
-        Some(oldest) if q.held != 0 => *oldest,
-        _ => 0,
+    // Not q.bytes.get: an Option of a reference is laid out for 64 bits in the module, and boards of 32 bits run it.
+    if q.held != 0 && q.first < 12 {
+        q.bytes[q.first as usize]
+    } else {
+        0
     }
 }
 

@@ -50,7 +50,8 @@ fn is_activity(p: u8, k: u8, n: u8) -> bool
 }
 
 #[tactic(auto, unfolding(chip::specs::Choice::both, chip::specs::Image::is_image))]
-fn has_form(image: &[u8; LENGTH]) -> bool
+fn has_form(image: &[u8]) -> bool
+    requires { length image.now ≡ image_length }
     ensures { result ≡ is_image image.now }
 {
     // The five flags stand side by side, so that the compiler asks them at once.
@@ -73,10 +74,7 @@ fn has_form(image: &[u8; LENGTH]) -> bool
 pub fn is_image(image: &[u8]) -> bool
     ensures { (result ≡ is_image image.now) × (result ≡ true → IsImage image.now) }
 {
-    match image.as_array() {
-        Some(image) => has_form(image),
-        None => false,
-    }
+    image.len() == LENGTH && has_form(image)
 }
 
 // The state of an image; none of other bytes.
@@ -84,9 +82,10 @@ pub fn is_image(image: &[u8]) -> bool
 pub fn read(image: &[u8]) -> Option<State>
     ensures { result ≡ read_of image.now }
 {
-    match image.as_array() {
-        Some(image) if has_form(image) => Some(state_of(image)),
-        _ => None,
+    if image.len() == LENGTH && has_form(image) {
+        Some(state_of(image))
+    } else {
+        None
     }
 }
 
@@ -95,10 +94,10 @@ pub fn read(image: &[u8]) -> Option<State>
 pub fn state(image: &[u8]) -> State
     ensures { result ≡ pick (eqb (length image.now) image_length) (state_of image.now) fresh }
 {
-    // A match as the value made the state and then copied it: ten instructions more in a register write, twenty in a call on the state.
-    let Some(image) = image.as_array() else {
+    // An if as the value made the state and then copied it: ten instructions more in a register write, twenty in a call on the state.
+    if image.len() != LENGTH {
         return fresh::fresh();
-    };
+    }
     state_of(image)
 }
 
@@ -107,7 +106,7 @@ pub fn state(image: &[u8]) -> State
 pub fn write(s: State, image: &mut [u8])
     ensures { image.new ≡ pick (eqb (length image.old) image_length) (image_of s) image.old }
 {
-    if let Some(image) = image.as_mut_array() {
+    if image.len() == LENGTH {
         put_image(s, image);
     }
 }
@@ -119,7 +118,7 @@ pub fn write_on(s: State, image: &mut [u8])
         (take fifo_place (image_of s) ++ ends_over s.fifo (drop fifo_place image.old)) image.old }
     ensures goes_on { IsImage image.old → Goes (state_of image.old).fifo s.fifo → image.new ≡ image_of s }
 {
-    if let Some(image) = image.as_mut_array() {
+    if image.len() == LENGTH {
         put_others(s, image);
         store::ends(s.fifo, image);
     }

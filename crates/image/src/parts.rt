@@ -1,7 +1,9 @@
 // The parts of a state, out of an image and into it.
-ghost use Rattle.std.specs.Prelude.{◌≡◌, ◌++◌, take, drop};
+// An Option of a reference to an array is laid out for 64 bits in the module, and boards of 32 bits run it; so an image is a slice here,
+// and its length is required.
+ghost use Rattle.std.specs.Prelude.{◌≡◌, ◌++◌, length, take, drop};
 ghost use Rattle.std.proofs.lemmas.List.Edits.{sets};
-ghost use Rattle.chip.specs.Image.{fifo_place, state_of, head_bytes, middle_bytes, image_of};
+ghost use Rattle.chip.specs.Image.{fifo_place, image_length, state_of, head_bytes, middle_bytes, image_of};
 
 use crate::cases::{direction_of, noted_byte, noted_of};
 use crate::{FIFO, LENGTH, store};
@@ -13,7 +15,8 @@ use fifo::part;
 use state::{activity, connections};
 
 #[tactic(auto, unfolding(chip::specs::Image::state_of))]
-fn registers_of(image: &[u8; LENGTH]) -> Registers
+fn registers_of(image: &[u8]) -> Registers
+    requires { length image.now ≡ image_length }
     ensures { result ≡ (state_of image.now).registers }
 {
     let mut cdb = [0; 12];
@@ -37,7 +40,8 @@ fn registers_of(image: &[u8; LENGTH]) -> Registers
 }
 
 #[tactic(auto, unfolding(chip::specs::Image::state_of))]
-fn status_of(image: &[u8; LENGTH]) -> Status
+fn status_of(image: &[u8]) -> Status
+    requires { length image.now ≡ image_length }
     ensures { result ≡ (state_of image.now).status }
 {
     Status {
@@ -49,14 +53,16 @@ fn status_of(image: &[u8; LENGTH]) -> Status
     }
 }
 
-fn fifo_of(image: &[u8; LENGTH]) -> Fifo
+fn fifo_of(image: &[u8]) -> Fifo
+    requires { length image.now ≡ image_length }
     ensures { result ≡ (state_of image.now).fifo }
 {
     part::get(&image[FIFO..LENGTH])
 }
 
 #[tactic(auto, unfolding(chip::specs::Image::state_of))]
-fn transfer_of(image: &[u8; LENGTH]) -> Transfer
+fn transfer_of(image: &[u8]) -> Transfer
+    requires { length image.now ≡ image_length }
     ensures { result ≡ (state_of image.now).transfer }
 {
     Transfer {
@@ -66,7 +72,8 @@ fn transfer_of(image: &[u8; LENGTH]) -> Transfer
 }
 
 #[tactic(auto, unfolding(chip::specs::Image::state_of))]
-fn wire_of(image: &[u8; LENGTH]) -> Wire
+fn wire_of(image: &[u8]) -> Wire
+    requires { length image.now ≡ image_length }
     ensures { result ≡ (state_of image.now).wire }
 {
     Wire {
@@ -85,7 +92,8 @@ fn wire_of(image: &[u8; LENGTH]) -> Wire
 }
 
 #[tactic(auto, unfolding(chip::specs::Image::state_of))]
-fn activity_of(image: &[u8; LENGTH]) -> Activity
+fn activity_of(image: &[u8]) -> Activity
+    requires { length image.now ≡ image_length }
     ensures { result ≡ (state_of image.now).activity }
 {
     activity::activity_of(image[28], image[29], image[31])
@@ -93,7 +101,8 @@ fn activity_of(image: &[u8; LENGTH]) -> Activity
 
 // The state whose image the bytes are; of bytes that are no image, some state or other.
 #[tactic(auto, unfolding(chip::specs::Image::state_of))]
-pub(crate) fn state_of(image: &[u8; LENGTH]) -> State
+pub(crate) fn state_of(image: &[u8]) -> State
+    requires { length image.now ≡ image_length }
     ensures { result ≡ state_of image.now }
 {
     State {
@@ -108,7 +117,8 @@ pub(crate) fn state_of(image: &[u8; LENGTH]) -> State
 
 // Bytes 0 to 2 of the image of s.
 #[tactic(auto, unfolding(chip::specs::Image::head_bytes))]
-fn put_head(s: State, image: &mut [u8; LENGTH])
+fn put_head(s: State, image: &mut [u8])
+    requires { length image.old ≡ image_length }
     ensures { image.new ≡ sets image.old 0 (head_bytes s) }
 {
     image[0] = s.registers.setup.own;
@@ -118,7 +128,8 @@ fn put_head(s: State, image: &mut [u8; LENGTH])
 
 // Bytes 15 to 22: the registers after the command bytes.
 #[tactic(auto, unfolding(chip::specs::Image::middle_bytes))]
-fn put_registers(s: State, image: &mut [u8; LENGTH])
+fn put_registers(s: State, image: &mut [u8])
+    requires { length image.old ≡ image_length }
     ensures { image.new ≡ sets image.old 15 (take 8 (middle_bytes s)) }
 {
     let [_, high, middle, low] = s.registers.count.to_be_bytes();
@@ -134,7 +145,8 @@ fn put_registers(s: State, image: &mut [u8; LENGTH])
 
 // Bytes 23 to 29: what the host sees beside them.
 #[tactic(auto, unfolding(chip::specs::Image::middle_bytes))]
-fn put_status(s: State, image: &mut [u8; LENGTH])
+fn put_status(s: State, image: &mut [u8])
+    requires { length image.old ≡ image_length }
     ensures { image.new ≡ sets image.old 23 (take 7 (drop 8 (middle_bytes s))) }
 {
     image[23] = s.status.code;
@@ -148,7 +160,8 @@ fn put_status(s: State, image: &mut [u8; LENGTH])
 
 // Bytes 30 to 39: the bus and the running command.
 #[tactic(auto, unfolding(chip::specs::Image::middle_bytes))]
-fn put_rest(s: State, image: &mut [u8; LENGTH])
+fn put_rest(s: State, image: &mut [u8])
+    requires { length image.old ≡ image_length }
     ensures { image.new ≡ sets image.old 30 (drop 15 (middle_bytes s)) }
 {
     image[30] = s.wire.connection as u8;
@@ -165,7 +178,8 @@ fn put_rest(s: State, image: &mut [u8; LENGTH])
 
 // Bytes 15 to 39.
 #[tactic(auto, unfolding(chip::specs::Image::middle_bytes))]
-fn put_middle(s: State, image: &mut [u8; LENGTH])
+fn put_middle(s: State, image: &mut [u8])
+    requires { length image.old ≡ image_length }
     ensures { image.new ≡ sets image.old 15 (middle_bytes s) }
 {
     put_registers(s, image);
@@ -174,7 +188,8 @@ fn put_middle(s: State, image: &mut [u8; LENGTH])
 }
 
 // Bytes 0 to 39: all but the FIFO's.
-pub(crate) fn put_others(s: State, image: &mut [u8; LENGTH])
+pub(crate) fn put_others(s: State, image: &mut [u8])
+    requires { length image.old ≡ image_length }
     ensures { image.new ≡ take fifo_place (image_of s) ++ drop fifo_place image.old }
 {
     put_head(s, image);
@@ -182,7 +197,8 @@ pub(crate) fn put_others(s: State, image: &mut [u8; LENGTH])
     put_middle(s, image);
 }
 
-pub(crate) fn put_image(s: State, image: &mut [u8; LENGTH])
+pub(crate) fn put_image(s: State, image: &mut [u8])
+    requires { length image.old ≡ image_length }
     ensures { image.new ≡ image_of s }
 {
     put_others(s, image);

@@ -1,5 +1,5 @@
 -- `write_on`: the image up to its end, and of the FIFO's part one place and the ends.
-use Rattle.std.proofs.Common.{◌≡◌, ◌++◌, ap₂, sym, ◌∙◌, List, ℕ, length, take, drop, rules, eqb, eq-eqb}
+use Rattle.std.proofs.Common.{◌≡◌, ◌++◌, ap₂, sym, ◌∙◌, List, ℕ, length, take, drop, rules, arith, eqb, eq-eqb}
 use Rattle.chip.specs.Choice.{pick}
 use Rattle.chip.specs.Fifo.{ends_over}
 use Rattle.chip.specs.Image.{image_length, fifo_place, image_of}
@@ -18,20 +18,22 @@ stored s l y z h hy e f =
     f ∙ taken _ _ (eq-eqb _ _ hy)
     ∙ ap₂ (λ (a b : List ℕ). a ++ ends_over s.fifo b) (before_end s h y _ e) (after_others s h y _ e)
 
-pub returns-in-Some-clause-stored : goal.returns-in-Some-clause-stored
-returns-in-Some-clause-stored c =
+pub returns-then-image-eq-LENGTH-clause-stored : goal.returns-then-image-eq-LENGTH-clause-stored
+returns-then-image-eq-LENGTH-clause-stored c =
     let s = c.args.s in
-    let k = c.in-Some.ensures.cases in
+    let h = c.if-image-eq-LENGTH.true in
+    let y = c.put_others.new.image in
     let cdb_long : length s.registers.descriptor.cdb ≡ 12 = search rules in
-    rw (← k.same) (stored s c.in-Some.image.now _ _ cdb_long c.put_others.array_long c.put_others.ensures c.ends.ensures)
-    ∙ sym (taken _ _ (eq-eqb _ _ k.long))
+    let hy : length y ≡ image_length = omega (arith, h, c.put_others.auto.image) in
+    stored s c.args.image.now y _ cdb_long hy c.put_others.ensures c.ends.ensures ∙ sym (taken _ _ (eq-eqb _ _ h))
 
-pub returns-in-Some-clause-goes_on : goal.returns-in-Some-clause-goes_on
-returns-in-Some-clause-goes_on c =
+pub returns-then-image-eq-LENGTH-clause-goes_on : goal.returns-then-image-eq-LENGTH-clause-goes_on
+returns-then-image-eq-LENGTH-clause-goes_on c =
     let s = c.args.s in
-    let k = c.in-Some.ensures.cases in
+    let y = c.put_others.new.image in
     let cdb_long : length s.registers.descriptor.cdb ≡ 12 = search rules in
-    λ o g. rw (← k.same) (stored s c.in-Some.image.now _ _ cdb_long c.put_others.array_long c.put_others.ensures c.ends.ensures) ∙ went_on _ s cdb_long o g
+    let hy : length y ≡ image_length = omega (arith, c.if-image-eq-LENGTH.true, c.put_others.auto.image) in
+    λ o g. stored s c.args.image.now y _ cdb_long hy c.put_others.ensures c.ends.ensures ∙ went_on _ s cdb_long o g
 
-pub returns-in_default-clause-goes_on : goal.returns-in_default-clause-goes_on
-returns-in_default-clause-goes_on c = λ o g. absurd (c.in_default.ensures.cases (valid _ o.valid).long)
+pub returns-else-image-eq-LENGTH-clause-goes_on : goal.returns-else-image-eq-LENGTH-clause-goes_on
+returns-else-image-eq-LENGTH-clause-goes_on c = λ o g. absurd (c.if-image-eq-LENGTH.false (valid _ o.valid).long)

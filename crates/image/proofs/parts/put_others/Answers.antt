@@ -18,8 +18,8 @@ returns c =
     let cdb_long : length cdb ≡ 12 = search rules in
     let copied : c.copy_from_slice.new.self ≡ cdb = c.copy_from_slice.ensures.after in
     let placed : put_mid 3 12 w c.copy_from_slice.new.self ≡ paste w 3 cdb (length cdb) = put_mid-paste 3 12 w _ cdb (length cdb) copied cdb_long refl in
-    let hx : length (put_mid 3 12 w c.copy_from_slice.new.self) ≡ 54 = omega (arith, ap length c.put_middle.ensures, length-sets (put_mid 3 12 w c.copy_from_slice.new.self) 15 (middle_bytes s), c.put_middle.array_long) in
+    let hx : length (put_mid 3 12 w c.copy_from_slice.new.self) ≡ 54 = omega (arith, ap length c.put_middle.ensures, length-sets (put_mid 3 12 w c.copy_from_slice.new.self) 15 (middle_bytes s), c.requires, c.put_head.auto.image, c.put_middle.auto.image) in
     three_over l w _ _ (head_bytes s) cdb (middle_bytes s) 3 15 fifo_place
     c.put_head.ensures placed c.put_middle.ensures
-    (head_length s) (omega (arith, cdb_long)) (omega (arith, middle_length s)) (omega (arith, c.told-image)) (omega (arith, hx))
+    (head_length s) (omega (arith, cdb_long)) (omega (arith, middle_length s)) (omega (arith, c.requires)) (omega (arith, hx))
     ∙ ap (λ (x : List ℕ). x ++ drop fifo_place l) (sym (others_of s cdb_long))
