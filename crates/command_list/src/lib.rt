@@ -79,7 +79,6 @@ const TABLE: [Entry; 34] = [
     LEFT_OUT, // 21h Transfer Pad
 ];
 
-#[tactic(auto, unfolding(chip::specs::Commands::entry_of, chip::specs::Commands::table))]
 pub fn entry_of(n: u8) -> Entry
     ensures { result ≡ entry_of n }
 {
