@@ -20,7 +20,12 @@ pub(crate) enum BadNumber {
 pub(crate) fn byte_of(number: u32) -> Result<u8, BadNumber>
     ensures { result ≡ tested BadNumber.Operand (is_byte number) number }
 {
-    u8::try_from(number).map_err(|_| BadNumber::Operand)
+    // Not u8::try_from: it goes by a flag and a number of 64 bits as one result, laid out as x86-64 does, and an i686 runs the module too.
+    if number < 256 {
+        Ok(number as u8)
+    } else {
+        Err(BadNumber::Operand)
+    }
 }
 
 // A mark: 1 writes, 0 reads. A parity: 1 is bad, 0 is good.
