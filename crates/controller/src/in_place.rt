@@ -17,7 +17,7 @@ ghost use Rattle.image.specs.IsImage.{IsImage};
 use crate::operands::{BadNumber, state_of};
 use answers::result;
 use bus::{answer, free, request, reselection, time};
-use chip::{Answer, Phase, Reply, Request, State};
+use chip::{Answer, Connection, Phase, Reply, Request, State};
 use image::{store, waiting};
 
 // The state that an image says.
@@ -47,7 +47,7 @@ fn plain_read(image: &mut [u8]) -> Answer
 {
     let a = image[25];
     let value = image[a as usize];
-    store::pointer(std::num::wrapping_add_u8(a, 1), image);
+    store::pointer(a.wrapping_add(1), image);
     Answer::Done(value)
 }
 
@@ -59,7 +59,7 @@ fn plain_written(byte: u8, image: &mut [u8]) -> Answer
 {
     let a = image[25];
     store::register(a, byte, image);
-    store::pointer(std::num::wrapping_add_u8(a, 1), image);
+    store::pointer(a.wrapping_add(1), image);
     Answer::Done(0)
 }
 
@@ -302,9 +302,14 @@ pub(crate) fn request(request: Request, image: &mut [u8]) -> Result<u32, BadNumb
     })
 }
 
+// A Free where there is no connection is out of place, and changes nothing.
+#[tactic(auto, unfolding(chip::specs::Events::freed, chip::specs::Choice::pick))]
 pub(crate) fn free(image: &mut [u8]) -> Result<u32, BadNumber>
     ensures { Serves freed result image.old image.new }
 {
     let s = state_of(image)?;
+    if s.wire.connection != Connection::Connected {
+        return Ok(result(Answer::OutOfPlace));
+    }
     Ok(result(finish(free::freed(s), image)))
 }

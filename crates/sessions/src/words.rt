@@ -9,9 +9,9 @@ pub(crate) fn word(line: &[u8], k: usize) -> &[u8] {
         .unwrap_or(b"")
 }
 
-// What stands before the first of these marks, and what after it.
-pub(crate) fn split_once(text: &[u8], mark: u8) -> Option<(&[u8], &[u8])> {
-    let mut parts = text.splitn(2, |b| *b == mark);
+// What stands before the first such sign, and what after it.
+pub(crate) fn split_once(text: &[u8], sign: u8) -> Option<(&[u8], &[u8])> {
+    let mut parts = text.splitn(2, |b| *b == sign);
     Some((parts.next()?, parts.next()?))
 }
 
