@@ -24,7 +24,7 @@ pub fn drain(part: &mut [u8], out: &mut [u8]) -> u8
         }
         let place = PLACES + first as usize;
         *byte = part[place];
-        first = crate::behind(first, 1);
+        first = crate::next(first);
         held -= 1;
     }
     part[HELD] = held;
@@ -59,7 +59,7 @@ pub fn fill(n: u32, part: &mut [u8], from: &[u8]) -> u8
         }
         let place = PLACES + at as usize;
         part[place] = *byte;
-        at = crate::behind(at, 1);
+        at = crate::next(at);
         held += 1;
     }
     part[HELD] = held;

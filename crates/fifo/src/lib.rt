@@ -33,6 +33,16 @@ pub(crate) fn behind(first: u8, held: u8) -> u8
     round(u32::from(first) + u32::from(held))
 }
 
+// The place after one of the twelve: `behind(place, 1)` with one test fewer, for the loops.
+#[tactic(auto, unfolding(chip::specs::Fifo::round, chip::specs::Choice::pick))]
+pub(crate) fn next(place: u8) -> u8
+    requires { place < 12 }
+    ensures place { result ≡ round (place + 1) }
+    ensures within { result < 12 }
+{
+    if place < 11 { place + 1 } else { 0 }
+}
+
 // Nothing waits.
 pub fn empty() -> Fifo
     ensures { result ≡ empty }

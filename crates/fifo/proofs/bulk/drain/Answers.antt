@@ -46,13 +46,13 @@ loop-byte-preserved c =
     let e = some p f n c.if-held-eq0.false in
     let h : c.loop-byte.byte-index < length c.loop-byte.out = omega (arith, c.loop-byte-test.true, c.loop-byte.auto.out) in
     record {
-      place = c.behind-first.ensures.within;
+      place = c.next-first.ensures.within;
       number = omega (arith, c.loop-byte.invariant.number, c.if-held-eq0.false);
       going = turn c.loop-byte.invariant.going _ _ h
           (rw (
             drop-cons c.loop-byte.out c.loop-byte.byte-index 0 h,
             some_front p f n e c.loop-byte.invariant.place,
-            c.behind-first.ensures.place,
+            c.next-first.ensures.place,
             ← (turned p f n e),
           ) (drained_more _ _ _ e));
     }

@@ -67,8 +67,8 @@ loop-byte-preserved c =
     record {
       long = length-set p _ v ∙ c.loop-byte.invariant.long;
       oldest = get_or-set_other p (2 + c.loop-byte.at) 1 v 0 (omega arith) ∙ c.loop-byte.invariant.oldest;
-      place = c.behind-at-in-loop-byte.ensures.within;
-      behind = c.behind-at-in-loop-byte.ensures.place ∙ ap (λ (y : ℕ). round (y + 1)) c.loop-byte.invariant.behind
+      place = c.next-at.ensures.within;
+      behind = c.next-at.ensures.place ∙ ap (λ (y : ℕ). round (y + 1)) c.loop-byte.invariant.behind
           ∙ place_next k m w (below c.args.n p k m e);
       number = omega (arith, c.loop-byte.invariant.number);
       going = rw c.loop-byte.invariant.behind
