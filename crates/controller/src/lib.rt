@@ -15,7 +15,7 @@ ghost use Rattle.controller.specs.Enters.{told};
 ghost use Rattle.std.specs.Prelude.{◌≡◌};
 
 use chip::Answer;
-use operands::{BadNumber, state_of};
+use operands::BadNumber;
 use state::fresh;
 
 // What C is told where a call is Bad number, too.
@@ -107,12 +107,12 @@ pub fn am33c93a_free(image: &mut [u8]) -> u32
 }
 
 // The lines are up to eleven bits, more than an Answer carries.
-#[tactic(auto, unfolding(chip::specs::Entries::lines_entered, chip::specs::Choice::pick))]
+#[tactic(auto, unfolding(chip::specs::Entries::lines_entered, image::specs::Read::read_of, chip::specs::Choice::pick))]
 pub fn am33c93a_lines(image: &[u8]) -> u32
     ensures { result ≡ lines_entered image.now }
 {
-    match state_of(image) {
-        Ok(s) => driven::line_result(s),
-        Err(_) => answers::result(Answer::BadNumber),
+    match image::read(image) {
+        Some(s) => driven::line_result(s),
+        None => answers::result(Answer::BadNumber),
     }
 }

@@ -77,13 +77,6 @@ pub fn is_empty(q: Fifo) -> bool
     q.held == 0
 }
 
-// A byte waits.
-pub fn has_byte(q: Fifo) -> bool
-    ensures { result ≡ not (is_empty q) }
-{
-    !is_empty(q)
-}
-
 #[tactic(auto, unfolding(chip::specs::Fifo::has_room))]
 pub fn has_room(q: Fifo) -> bool
     ensures { result ≡ has_room q }

@@ -21,7 +21,7 @@ fn byte(at: usize, b: u8, image: &mut [u8])
     }
 }
 
-// Three fields by their names, so that only this file knows where each stands.
+// Three fields under the names by which room controller and docs/ARCHITECTURE.md know them.
 pub fn pointer(b: u8, image: &mut [u8])
     ensures { image.new ≡ pick (eqb (length image.old) image_length) (set image.old 25 b) image.old }
 {
@@ -51,6 +51,8 @@ pub fn last(b: u8, image: &mut [u8])
 {
     byte(37, b, image);
 }
+
+// `fifo` and `ends` differ in what they store of the FIFO: all twelve places, or one.
 
 // The whole FIFO.
 #[tactic(auto, unfolding(chip::specs::Choice::pick, chip::specs::Fifo::fifo_bytes))]

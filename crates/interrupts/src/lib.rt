@@ -7,6 +7,8 @@ ghost use Rattle.chip.specs.Interrupts.{interrupted, in_ending, busy, interrupt,
 use chip::{Activity, Connection, Direction, State};
 use state::activity;
 
+// interrupted, in_ending and busy are questions of room state under the definitions' names here. A status code, k, is a number as in the
+// definitions: a byte of register 17h, of which other rooms make each their own.
 pub fn interrupted(s: State) -> bool
     ensures { result ≡ interrupted s }
 {

@@ -36,13 +36,6 @@ fn is_on(k: u8, b: u8) -> bool
     b >> k & 1 == 1
 }
 
-// Bits 7 to 0 of n.
-pub fn low_byte(n: u32) -> u8
-    ensures { result ≡ n % 256 }
-{
-    (n & 0xff) as u8
-}
-
 pub fn packed(int: bool, lci: bool, bsy: bool, pe: bool, dbr: bool) -> u8
     ensures { result ≡ packed int lci bsy pe dbr }
 {

@@ -68,7 +68,7 @@ fn carries(fixed: bool, p: Phase, s: State) -> bool
     }
 }
 
-// Whether the FIFO has room, or a byte, as the entries of controller ask it of a state.
+// Whether the FIFO has room, or a byte, as the entries of controller ask it of a state; docs/ARCHITECTURE.md names has_room.
 pub fn has_room(s: State) -> bool
     ensures { result ≡ has_room s.fifo }
 {

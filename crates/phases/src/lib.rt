@@ -34,7 +34,7 @@ pub fn phase_of(p: u8) -> Phase
 }
 
 // A code that carries a phase: 18h+p (Transfer Info is over, all bytes crossed), 28h+p (aborted), 48h+p (unexpected) and 88h+p
-// (asked for, connected and idle).
+// (asked for, connected and idle). The base is a number, as in the definitions, which add it.
 pub fn coded(base: u8, p: Phase) -> u8
     requires { base ≤ 0x88 }
     ensures { result ≡ base + phase_number p }

@@ -1,4 +1,5 @@
-// How a Select-And-Transfer begins, from Disconnected or as a resume.
+// How a Select-And-Transfer begins, from Disconnected or as a resume. The phase register is written and asked by its numbers: a Stage says
+// what is expected next, and several numbers have one.
 ghost use Rattle.std.specs.Prelude.{◌≡◌};
 ghost use Rattle.chip.specs.SelectAndTransfer.{from_disconnected, is_resumable, resumed};
 

@@ -160,15 +160,18 @@ impl Device {
 
     // 12h to 14h.
     fn write_count(&mut self, n: u32) -> Reply {
+        let [_, high, middle, low] = n.to_be_bytes();
         self.point(0x12);
-        self.write(n / 65536 % 256);
-        self.write_two(n)
+        self.write(u32::from(high));
+        self.write(u32::from(middle));
+        self.write(u32::from(low))
     }
 
     // A number of two bytes.
     fn write_two(&mut self, n: u32) -> Reply {
-        self.write(n / 256 % 256);
-        self.write(n % 256)
+        let [_, _, high, low] = n.to_be_bytes();
+        self.write(u32::from(high));
+        self.write(u32::from(low))
     }
 
     // The answer of the last of three reads, with the whole count as its value.

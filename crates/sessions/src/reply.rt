@@ -1,4 +1,5 @@
-// What an entry of the controller returns, a number for C, taken apart: an answer and its value.
+// What an entry of the controller returns, a number for C, taken apart: an answer and its value. An Answer of its own, without a value, since
+// the program stands on the entries alone and not on room chip.
 use crate::words;
 
 #[derive(Clone, Copy, PartialEq, Eq)]

@@ -62,7 +62,7 @@ pub fn code_to_come(a: Activity) -> u8
     }
 }
 
-// The activity with p pending, the code k to come, and the command n.
+// The activity with p pending, the code k to come, and the command n: three bytes of the image, of which every three have an activity.
 #[tactic(auto, unfolding(chip::specs::Activity::activity_of, chip::specs::Choice::pick))]
 pub fn activity_of(p: u8, k: u8, n: u8) -> Activity
     ensures { result ≡ activity_of p k n }
