@@ -17,7 +17,7 @@ ghost use Rattle.image.specs.Read.{read_of};
 
 use chip::State;
 use fifo::part;
-use parts::{put_image, put_others, state_of};
+use parts::{Bytes, put_image, put_others};
 use state::{activity, connections, fresh};
 
 // How many bytes an image has.
@@ -49,32 +49,12 @@ fn is_activity(p: u8, k: u8, n: u8) -> bool
     (n < activity::COMMANDS) & go_with(p, k, n)
 }
 
-#[tactic(auto, unfolding(chip::specs::Choice::both, chip::specs::Image::is_image))]
-fn has_form(image: &[u8]) -> bool
-    requires { length image.now ≡ image_length }
-    ensures { result ≡ is_image image.now }
-{
-    // The five flags stand side by side, so that the compiler asks them at once.
-    let ranges = (image[26] < 2)
-        & (image[27] < 2)
-        & (image[33] < 2)
-        & (image[34] < 2)
-        & (image[35] < 2)
-        & (image[30] < connections::COUNT)
-        & (image[32] < 3)
-        & (image[36] < 9)
-        & (image[37] < 9)
-        & (image[38] < 8)
-        & is_activity(image[28], image[29], image[31]);
-    ranges && part::is_fifo(&image[FIFO..LENGTH])
-}
-
 // Whether the bytes are a state's image; what then holds of them is specs/IsImage.antt.
 #[tactic(auto, unfolding(chip::specs::Image::is_image, chip::specs::Choice::both))]
 pub fn is_image(image: &[u8]) -> bool
     ensures { (result ≡ is_image image.now) × (result ≡ true → IsImage image.now) }
 {
-    image.len() == LENGTH && has_form(image)
+    image.len() == LENGTH && Bytes { all: image }.has_form()
 }
 
 // The state of an image; none of other bytes.
@@ -82,11 +62,13 @@ pub fn is_image(image: &[u8]) -> bool
 pub fn read(image: &[u8]) -> Option<State>
     ensures { result ≡ read_of image.now }
 {
-    if image.len() == LENGTH && has_form(image) {
-        Some(state_of(image))
-    } else {
-        None
+    if image.len() == LENGTH {
+        let lent = Bytes { all: image };
+        if lent.has_form() {
+            return Some(lent.state());
+        }
     }
+    None
 }
 
 // The state that bytes say; the fresh one where their length is not an image's. Whether they are an image is not asked.
@@ -98,7 +80,7 @@ pub fn state(image: &[u8]) -> State
     if image.len() != LENGTH {
         return fresh::fresh();
     }
-    state_of(image)
+    Bytes { all: image }.state()
 }
 
 // Bytes of another length than an image's stay as they are.

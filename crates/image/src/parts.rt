@@ -1,9 +1,9 @@
 // The parts of a state, out of an image and into it.
-// An Option of a reference to an array is laid out for 64 bits in the module, and boards of 32 bits run it; so an image is a slice here,
-// and its length is required.
-ghost use Rattle.std.specs.Prelude.{◌≡◌, ◌++◌, length, take, drop};
+// A reference to an array would say the length too, but it comes out of a slice in an Option, which the module lays out for 64 bits and
+// boards of 32 bits run.
+ghost use Rattle.std.specs.Prelude.{◌≡◌, ◌++◌, List, ℕ, length, take, drop};
 ghost use Rattle.std.proofs.lemmas.List.Edits.{sets};
-ghost use Rattle.chip.specs.Image.{fifo_place, image_length, state_of, head_bytes, middle_bytes, image_of};
+ghost use Rattle.chip.specs.Image.{fifo_place, image_length, is_image, state_of, head_bytes, middle_bytes, image_of};
 
 use crate::cases::{direction_of, noted_byte, noted_of};
 use crate::{FIFO, LENGTH, store};
@@ -13,105 +13,136 @@ use chip::{
 };
 use fifo::part;
 use state::{activity, connections};
+use std::marker::Model;
 
-#[tactic(auto, unfolding(chip::specs::Image::state_of))]
-fn registers_of(image: &[u8]) -> Registers
-    requires { length image.now ≡ image_length }
-    ensures { result ≡ (state_of image.now).registers }
-{
-    let mut cdb = [0; 12];
-    cdb.copy_from_slice(&image[3..15]);
-    Registers {
-        setup: Setup {
-            own: image[0],
-            control: image[1],
-            timeout: image[2],
-            synchronous: image[17],
-        },
-        descriptor: Descriptor {
-            cdb,
-            lun: image[15],
-            phase: image[16],
-        },
-        count: u32::from_be_bytes([0, image[18], image[19], image[20]]),
-        destination: image[21],
-        source: image[22],
+// Bytes as long as an image, lent to be read; a contract sees them as the list that they are.
+#[derive(Drop)]
+pub(crate) struct Bytes<'a> {
+    pub(crate) all: &'a [u8],
+}
+
+impl<'a> Model for Bytes<'a> {
+    ghost Value = { List ℕ };
+
+    ghost view = { λ b. b.all.now };
+
+    ghost invariant = { λ b. length b.all.now ≡ image_length };
+}
+
+impl<'a> Bytes<'a> {
+    #[tactic(auto, unfolding(chip::specs::Choice::both, chip::specs::Image::is_image))]
+    pub(crate) fn has_form(&self) -> bool
+        ensures { result ≡ is_image self.now }
+    {
+        // The five flags stand side by side, so that the compiler asks them at once.
+        let ranges = (self.all[26] < 2)
+            & (self.all[27] < 2)
+            & (self.all[33] < 2)
+            & (self.all[34] < 2)
+            & (self.all[35] < 2)
+            & (self.all[30] < connections::COUNT)
+            & (self.all[32] < 3)
+            & (self.all[36] < 9)
+            & (self.all[37] < 9)
+            & (self.all[38] < 8)
+            & crate::is_activity(self.all[28], self.all[29], self.all[31]);
+        ranges && part::is_fifo(&self.all[FIFO..LENGTH])
     }
-}
 
-#[tactic(auto, unfolding(chip::specs::Image::state_of))]
-fn status_of(image: &[u8]) -> Status
-    requires { length image.now ≡ image_length }
-    ensures { result ≡ (state_of image.now).status }
-{
-    Status {
-        pointer: image[25],
-        code: image[23],
-        command: image[24],
-        lci: image[26] == 1,
-        pe: image[27] == 1,
+    #[tactic(auto, unfolding(chip::specs::Image::state_of))]
+    fn registers(&self) -> Registers
+        ensures { result ≡ (state_of self.now).registers }
+    {
+        let mut cdb = [0; 12];
+        cdb.copy_from_slice(&self.all[3..15]);
+        Registers {
+            setup: Setup {
+                own: self.all[0],
+                control: self.all[1],
+                timeout: self.all[2],
+                synchronous: self.all[17],
+            },
+            descriptor: Descriptor {
+                cdb,
+                lun: self.all[15],
+                phase: self.all[16],
+            },
+            count: u32::from_be_bytes([0, self.all[18], self.all[19], self.all[20]]),
+            destination: self.all[21],
+            source: self.all[22],
+        }
     }
-}
 
-fn fifo_of(image: &[u8]) -> Fifo
-    requires { length image.now ≡ image_length }
-    ensures { result ≡ (state_of image.now).fifo }
-{
-    part::get(&image[FIFO..LENGTH])
-}
-
-#[tactic(auto, unfolding(chip::specs::Image::state_of))]
-fn transfer_of(image: &[u8]) -> Transfer
-    requires { length image.now ≡ image_length }
-    ensures { result ≡ (state_of image.now).transfer }
-{
-    Transfer {
-        direction: direction_of(image[32]),
-        single: image[33] == 1,
+    #[tactic(auto, unfolding(chip::specs::Image::state_of))]
+    fn status(&self) -> Status
+        ensures { result ≡ (state_of self.now).status }
+    {
+        Status {
+            pointer: self.all[25],
+            code: self.all[23],
+            command: self.all[24],
+            lci: self.all[26] == 1,
+            pe: self.all[27] == 1,
+        }
     }
-}
 
-#[tactic(auto, unfolding(chip::specs::Image::state_of))]
-fn wire_of(image: &[u8]) -> Wire
-    requires { length image.now ≡ image_length }
-    ensures { result ≡ (state_of image.now).wire }
-{
-    Wire {
-        connection: connections::connection_of(image[30]),
-        handshake: Handshake {
-            atn: image[34] == 1,
-            ack: image[35] == 1,
-        },
-        seen: Seen {
-            reported: noted_of(image[36]),
-            last: noted_of(image[37]),
-        },
-        identity: Identity { number: image[38] },
-        elapsed: image[39],
+    fn fifo(&self) -> Fifo
+        ensures { result ≡ (state_of self.now).fifo }
+    {
+        part::get(&self.all[FIFO..LENGTH])
     }
-}
 
-#[tactic(auto, unfolding(chip::specs::Image::state_of))]
-fn activity_of(image: &[u8]) -> Activity
-    requires { length image.now ≡ image_length }
-    ensures { result ≡ (state_of image.now).activity }
-{
-    activity::activity_of(image[28], image[29], image[31])
-}
+    #[tactic(auto, unfolding(chip::specs::Image::state_of))]
+    fn transfer(&self) -> Transfer
+        ensures { result ≡ (state_of self.now).transfer }
+    {
+        Transfer {
+            direction: direction_of(self.all[32]),
+            single: self.all[33] == 1,
+        }
+    }
 
-// The state whose image the bytes are; of bytes that are no image, some state or other.
-#[tactic(auto, unfolding(chip::specs::Image::state_of))]
-pub(crate) fn state_of(image: &[u8]) -> State
-    requires { length image.now ≡ image_length }
-    ensures { result ≡ state_of image.now }
-{
-    State {
-        registers: registers_of(image),
-        status: status_of(image),
-        fifo: fifo_of(image),
-        transfer: transfer_of(image),
-        wire: wire_of(image),
-        activity: activity_of(image),
+    #[tactic(auto, unfolding(chip::specs::Image::state_of))]
+    fn wire(&self) -> Wire
+        ensures { result ≡ (state_of self.now).wire }
+    {
+        Wire {
+            connection: connections::connection_of(self.all[30]),
+            handshake: Handshake {
+                atn: self.all[34] == 1,
+                ack: self.all[35] == 1,
+            },
+            seen: Seen {
+                reported: noted_of(self.all[36]),
+                last: noted_of(self.all[37]),
+            },
+            identity: Identity {
+                number: self.all[38],
+            },
+            elapsed: self.all[39],
+        }
+    }
+
+    #[tactic(auto, unfolding(chip::specs::Image::state_of))]
+    fn activity(&self) -> Activity
+        ensures { result ≡ (state_of self.now).activity }
+    {
+        activity::activity_of(self.all[28], self.all[29], self.all[31])
+    }
+
+    // The state whose image the bytes are; of bytes that are no image, some state or other.
+    #[tactic(auto, unfolding(chip::specs::Image::state_of))]
+    pub(crate) fn state(&self) -> State
+        ensures { result ≡ state_of self.now }
+    {
+        State {
+            registers: self.registers(),
+            status: self.status(),
+            fifo: self.fifo(),
+            transfer: self.transfer(),
+            wire: self.wire(),
+            activity: self.activity(),
+        }
     }
 }
 

@@ -8,7 +8,7 @@ use Rattle.chip.specs.Image.{image_length, is_image, fifo_place}
 use Rattle.chip.specs.Fifo.{is_fifo}
 use Rattle.chip.proofs.ImageTests.{both_on, both_and, and_chain}
 use Rattle.image.proofs.Ends.{valid_end}
-use Rattle.image.proofs.has_form.Goals as goal
+use Rattle.image.proofs.parts.Bytes.has_form.Goals as goal
 
 and_on : (a : Bool) → (a && true) ≡ a
 and_on true = refl
@@ -54,7 +54,9 @@ settled l a r h k e = rw (eq-eqb _ _ h, ← e, k) (both_on _ ∙ lined_up _ _ _ 
 pub returns-then-ranges : goal.returns-then-ranges
 unfolding both
 returns-then-ranges c =
-    let l = c.args.image.now in
-    let h : length l ≡ image_length = search rules in
+    let l = c.self.inside.all.now in
+    let h : length l ≡ image_length = c.self.invariant in
+    rw (← c.self.view_is) (
     c.is_fifo.ensures ∙ valid_end l h
-    ∙ sym (settled l _ true h c.is_activity.ensures c.if-ranges.true)
+    ∙ sym (settled l _ true h c.is_activity.ensures c.if-ranges.true))
+
