@@ -1,7 +1,7 @@
 // The calls on the lent bytes. Those that room moves names store only the bytes that change; every other call is made on the state, and
 // the whole image is written.
 // `requires { IsImage image.old }` stands in each helper: a struct around the `&mut [u8]` with that as its ghost field would have to be
-// proved an image again after each single store.
+// proved an image again after each single store, and whoever lent the bytes would not learn what they became (both tried).
 #![tactic(auto, unfolding(chip::specs::Choice::pick))]
 
 ghost use Rattle.std.specs.Prelude.{◌≡◌, ◌-◌, ◌%◌, ◌≤◌, true, false};

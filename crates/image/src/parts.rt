@@ -1,6 +1,7 @@
 // The parts of a state, out of an image and into it.
-// A reference to an array would say the length too, but it comes out of a slice in an Option, which the module lays out for 64 bits and
-// boards of 32 bits run.
+// Bytes that are read carry their length in a model. Bytes that are written require it: with the `&mut` in a struct whoever lent it does not
+// learn what they became (`c.image-1.given.0 ≡ ..` stays open). A reference to an array comes out of a slice in an Option, which the module
+// lays out for 64 bits, and boards of 32 bits run it.
 ghost use Rattle.std.specs.Prelude.{◌≡◌, ◌++◌, List, ℕ, length, take, drop};
 ghost use Rattle.std.proofs.lemmas.List.Edits.{sets};
 ghost use Rattle.chip.specs.Image.{fifo_place, image_length, is_image, state_of, head_bytes, middle_bytes, image_of};

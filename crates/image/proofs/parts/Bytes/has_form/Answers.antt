@@ -59,4 +59,3 @@ returns-then-ranges c =
     rw (← c.self.view_is) (
     c.is_fifo.ensures ∙ valid_end l h
     ∙ sym (settled l _ true h c.is_activity.ensures c.if-ranges.true))
-
