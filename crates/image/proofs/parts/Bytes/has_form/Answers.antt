@@ -1,5 +1,5 @@
 -- `has_form`: the flag that the code makes is the definition's ranges, one beside the other.
-use Rattle.std.proofs.Common.{◌≡◌, refl, sym, ◌∙◌, Bool, true, false, List, ℕ, length, get_or, drop, ltb, eq-eqb, rules}
+use Rattle.std.proofs.Common.{◌≡◌, refl, sym, ◌∙◌, Bool, true, false, List, ℕ, length, get_or, drop, ltb, eq-eqb}
 use mathlib.Core.Bool.{◌&&◌}
 use Rattle.chip.specs.Choice.{both}
 use Rattle.chip.specs.Connections.{connection_count}
