@@ -90,14 +90,14 @@ pub fn entry_of(n: u8) -> Entry
     }
 }
 
-// The command counts as Level II.
+// The command counts as Level II: a question under its definition's name, which room commands asks of a row.
 pub fn is_two(l: Level) -> bool
     ensures { result ≡ is_two l }
 {
     matches!(l, Level::Two)
 }
 
-// The connection is one in which the command is valid.
+// The connection is one in which the command is valid. Two of the six places answer whatever it is, so this is a match and no comparison.
 #[tactic(auto, unfolding(chip::specs::Choice::either))]
 pub fn is_place(p: Place, s: State) -> bool
     ensures { result ≡ is_place p s.wire.connection }

@@ -1,4 +1,4 @@
-// What each command does.
+// What each command does. A status code is a number, as in the definitions: a byte of register 17h.
 ghost use Rattle.std.specs.Prelude.{◌≡◌};
 ghost use Rattle.chip.specs.Commands.{aborted, disconnected, transfer_info_begun, reset, selecting, select_and_transfer_begun, way_of};
 

@@ -124,7 +124,7 @@ fn low_after(s: State) -> u8
     (s.registers.count % 256 - 1) as u8
 }
 
-// A byte of Data In, into the FIFO.
+// A byte of Data In, into the FIFO. In the image a phase is one more than its number, and 0 is none; `last` takes any byte.
 #[tactic(auto, using(crate::proofs::Steps::low_enough, crate::proofs::Steps::taken_made))]
 fn byte_taken(byte: u8, image: &mut [u8]) -> Answer
     requires { IsImage image.old × (takes_data (state_of image.old) ≡ true) × (has_room (state_of image.old).fifo ≡ true) }

@@ -10,7 +10,7 @@ ghost use Rattle.image.specs.IsImage.{IsImage};
 
 use chip::{Phase, State};
 
-// What makes a call Bad number: bytes that are no state's image, or an operand out of its range.
+// What makes a call Bad number: bytes that are no state's image, or an operand out of its range. C is told the two alike.
 #[derive(Clone, Copy, PartialEq, Eq, Drop)]
 pub(crate) enum BadNumber {
     Image,

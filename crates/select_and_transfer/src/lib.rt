@@ -1,5 +1,6 @@
 // Select-And-Transfer by its phase register: the definitions of chip's specs/SelectAndTransfer.antt. Where a name there begins with
-// select_and_transfer, the room's own name stands for that: `request` is select_and_transfer_request.
+// select_and_transfer, the room's own name stands for that: `request` is select_and_transfer_request. In all files of this room the phase
+// register is written and asked by its numbers, and resume.rt says why.
 #![tactic(auto)]
 
 pub mod free;

@@ -145,7 +145,7 @@ impl Device {
         am33c93a_register(&mut self.image, 1, byte).into()
     }
 
-    // Rising bytes in registers that follow each other.
+    // Rising bytes in registers that follow each other. The number goes into each byte, so this goes over numbers and over no slice.
     fn write_rising(&mut self, address: u32, byte: u32, n: u32) -> Reply {
         let mut reply = self.point(address);
         for i in 0..n {
@@ -174,7 +174,7 @@ impl Device {
         self.write(u32::from(low))
     }
 
-    // The answer of the last of three reads, with the whole count as its value.
+    // The answer of the last of three reads, with the whole count as its value. Replies have values of 32 bits, so no bytes are joined here.
     fn read_count(&mut self) -> Reply {
         let high = self.read(0x12).value % 256;
         let middle = self.read(0x13).value % 256;

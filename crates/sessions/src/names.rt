@@ -44,7 +44,7 @@ pub(crate) fn say_auxiliary(bits: u32) {
     }
 }
 
-// What the controller drives: its connection in bits 5 to 3, of which at most one is set, ATN, ACK, and the Target.
+// What the controller drives, as an entry tells C in one number: its connection in bits 5 to 3, of which at most one is set, ATN, ACK, and the Target.
 pub(crate) fn say_lines(lines: u32) {
     say(match lines / 8 % 8 {
         0 => b"Disconnected",

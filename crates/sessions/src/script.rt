@@ -75,6 +75,7 @@ impl Bench {
         self.compare(reply == Reply::expected(rest), rest);
     }
 
+    // The number of each goes into its call, so this goes over numbers and over no slice.
     // A series of Requests: the first and the last reply, where each value was one above that before it.
     fn call_series(&mut self, line: &[u8], n: u32, rest: &[u8]) {
         let start = self.device.request(line, 0);
