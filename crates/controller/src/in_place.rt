@@ -152,7 +152,7 @@ fn byte_sent(byte: u8, bad: bool, image: &mut [u8]) -> Answer
 }
 
 // The calls. Each tests the image before all else. Where several ways meet, each makes its answer the number that C is told: with one
-// place for all of them behind the last, a Request takes a tenth more.
+// place for all of them behind the last, a held Request took 159 instructions for 139.
 
 #[tactic(auto, using(crate::proofs::Steps::pointer_stored_made), unfolding(chip::specs::Registers::pointer_read, chip::specs::Registers::pointer_set, chip::specs::Choice::pick))]
 pub(crate) fn pointer(writes: bool, byte: u8, image: &mut [u8]) -> Result<u32, BadNumber>
