@@ -12,6 +12,8 @@
 //     translate S H C at A B [spares K P]   loads a disk and an address, 03 to 0Eh, and writes 18h to 18h: S sectors, H heads, C cylinders,
 //                        the address by its high and low half; K spares, and P sectors on a cylinder beside them
 //     cylinder?          reads 0D/0Eh
+ghost use Rattle.std.specs.Prelude.{◌<◌, ◌≤◌};
+
 use crate::reply::Reply;
 use crate::words;
 use controller::{
@@ -82,7 +84,9 @@ impl Verb {
 }
 
 // How often a line asks for its call: xN is one of its words, and no other word of such a line has an x.
-pub(crate) fn times(line: &[u8]) -> u32 {
+pub(crate) fn times(line: &[u8]) -> u32
+    ensures { result < 268435456 }
+{
     match words::split_once(line, b'x') {
         Some((_, count)) => words::operand(count, 0),
         None => 1,
@@ -90,7 +94,9 @@ pub(crate) fn times(line: &[u8]) -> u32 {
 }
 
 // A phase's number and no enum, since the entry takes the number; 8, which it answers with Bad number, for a word that is no phase.
-fn phase_number(word: &[u8]) -> u32 {
+fn phase_number(word: &[u8]) -> u32
+    ensures { result ≤ 8 }
+{
     match word {
         b"Data-Out" => 0,
         b"Data-In" => 1,
@@ -101,6 +107,24 @@ fn phase_number(word: &[u8]) -> u32 {
         b"Message-Out" => 6,
         b"Message-In" => 7,
         _ => 8,
+    }
+}
+
+// What a line says of a Request, as the entry takes it; for a series it is read once.
+#[derive(Clone, Copy)]
+pub(crate) struct Request {
+    phase: u32,
+    byte: u32,
+    parity: u32,
+}
+
+impl Request {
+    pub(crate) fn of(line: &[u8]) -> Request {
+        Request {
+            phase: phase_number(words::word(line, 1)),
+            byte: words::operand(line, 2),
+            parity: matches!(words::word(line, 3), b"bad") as u32,
+        }
     }
 }
 
@@ -226,11 +250,9 @@ impl Device {
     }
 
     // The i-th Request of a series: its byte has risen i times.
-    pub(crate) fn request(&mut self, line: &[u8], i: u32) -> Reply {
-        let phase = phase_number(words::word(line, 1));
-        let byte = words::operand(line, 2).wrapping_add(i);
-        let is_bad = matches!(words::word(line, 3), b"bad");
-        am33c93a_request(&mut self.image, phase, byte, is_bad as u32).into()
+    pub(crate) fn request(&mut self, request: Request, i: u32) -> Reply {
+        let byte = request.byte.wrapping_add(i);
+        am33c93a_request(&mut self.image, request.phase, byte, request.parity).into()
     }
 
     // A line that is no call is Bad number.
@@ -238,26 +260,25 @@ impl Device {
         let Some(verb) = verb else {
             return Reply::BAD_NUMBER;
         };
-        let a = words::operand(line, 1);
-        let b = words::operand(line, 2);
+        let operand = |k| words::operand(line, k);
         match verb {
-            Verb::SetPointer => self.point(a),
+            Verb::SetPointer => self.point(operand(1)),
             Verb::ReadPointer => am33c93a_pointer(&mut self.image, 0, 0).into(),
             Verb::Auxiliary => self.auxiliary(),
-            Verb::Read => self.read(a),
-            Verb::Write => self.write_rising(a, b, times(line)),
-            Verb::Command => self.command(a),
+            Verb::Read => self.read(operand(1)),
+            Verb::Write => self.write_rising(operand(1), operand(2), times(line)),
+            Verb::Command => self.command(operand(1)),
             Verb::Code => self.read(0x17),
-            Verb::SetCount => self.write_count(a),
+            Verb::SetCount => self.write_count(operand(1)),
             Verb::ReadCount => self.read_count(),
-            Verb::Out => self.block_out(a, b),
-            Verb::In => self.block_in(a),
+            Verb::Out => self.block_out(operand(1), operand(2)),
+            Verb::In => self.block_in(operand(1)),
             Verb::Translate => self.translate(line),
             Verb::ReadCylinder => self.read_cylinder(),
-            Verb::Time => am33c93a_time(&mut self.image, a).into(),
+            Verb::Time => am33c93a_time(&mut self.image, operand(1)).into(),
             Verb::Answer => am33c93a_answer(&mut self.image).into(),
-            Verb::Reselection => am33c93a_reselection(&mut self.image, a).into(),
-            Verb::Request => self.request(line, 0),
+            Verb::Reselection => am33c93a_reselection(&mut self.image, operand(1)).into(),
+            Verb::Request => self.request(Request::of(line), 0),
             Verb::Free => am33c93a_free(&mut self.image).into(),
             Verb::Lines => am33c93a_lines(&self.image).into(),
         }

@@ -7,7 +7,7 @@
 // Words that a call does not look at, as the name of a register, are for the reader.
 //
 // A read of 17h is told on the line of the call before it.
-use crate::calls::{Device, Verb};
+use crate::calls::{Device, Request, Verb};
 use crate::codes::FirstReads;
 use crate::names::say;
 use crate::reply::{Answer, Reply};
@@ -78,11 +78,12 @@ impl Bench {
     // The number of each goes into its call, so this goes over numbers and over no slice.
     // A series of Requests: the first and the last reply, where each value was one above that before it.
     fn call_series(&mut self, line: &[u8], n: u32, rest: &[u8]) {
-        let start = self.device.request(line, 0);
+        let request = Request::of(line);
+        let start = self.device.request(request, 0);
         let mut last = start;
         let mut rises = true;
         for i in 1..n {
-            let reply = self.device.request(line, i);
+            let reply = self.device.request(request, i);
             rises &= reply == last.risen();
             last = reply;
         }

@@ -1,22 +1,45 @@
 // A line of the script taken apart: words are what stands between blanks, a number is decimal, or hexadecimal where an h ends it.
-ghost use Rattle.std.specs.Prelude.{◌<◌, ◌≤◌};
+ghost use Rattle.std.specs.Prelude.{◌<◌, ◌≤◌, length, IfSome, ◌≡◌, ◌==◌, ℕ, [], ◌∷◌, ◌++◌, filter, not, take, drop, unwrap_or};
+ghost use Rattle.std.specs.List.{slice_get, slice_split};
+
+// The first word of a line, and what stands after it; both are empty where there is none. 32 is the blank.
+fn split_word(line: &[u8]) -> (&[u8], &[u8])
+    ensures first { result.0.now ≡ unwrap_or (slice_get (filter (λ part. not (length part == 0)) (slice_split (λ b. b == 32) line.now)) 0) [] }
+    ensures after { filter (λ part. not (length part == 0)) (slice_split (λ b. b == 32) result.1.now) ≡ drop 1 (filter (λ part. not (length part == 0)) (slice_split (λ b. b == 32) line.now)) }
+    ensures within { (length result.0.now ≤ length line.now) × (length result.1.now ≤ length line.now) }
+{
+    let start = line.iter().position(|b| *b != b' ').unwrap_or(line.len());
+    let rest = &line[start..];
+    let end = rest.iter().position(|b| *b == b' ').unwrap_or(rest.len());
+    (&rest[..end], &rest[end..])
+}
 
 // Word k of a line, counted from 0; an empty one where there are fewer.
-pub(crate) fn word(line: &[u8], k: usize) -> &[u8] {
-    line.split(|b| *b == b' ')
-        .filter(|word| !word.is_empty())
-        .nth(k)
-        .unwrap_or(b"")
+pub(crate) fn word(line: &[u8], k: usize) -> &[u8]
+    ensures value { result.now ≡ unwrap_or (slice_get (filter (λ part. not (length part == 0)) (slice_split (λ b. b == 32) line.now)) k) [] }
+    ensures within { length result.now ≤ length line.now }
+{
+    let mut rest = line;
+    for _ in 0..k {
+        rest = split_word(rest).1;
+    }
+    split_word(rest).0
 }
 
 // What stands before the first such sign, and what after it.
-pub(crate) fn split_once(text: &[u8], sign: u8) -> Option<(&[u8], &[u8])> {
+pub(crate) fn split_once(text: &[u8], sign: u8) -> Option<(&[u8], &[u8])>
+    ensures cut { IfSome result (λ parts. (at_cut : ℕ) × (text.now ≡ parts.0.now ++ (at_cut ∷ parts.1.now))) }
+    ensures within { IfSome result (λ parts. (length parts.0.now ≤ length text.now) × (length parts.1.now ≤ length text.now)) }
+{
     let mut parts = text.splitn(2, |b| *b == sign);
     Some((parts.next()?, parts.next()?))
 }
 
 // Without the blanks at its end; `trim_ascii_end` would cut tabs and line ends of other systems too.
-pub(crate) fn trim_end(text: &[u8]) -> &[u8] {
+pub(crate) fn trim_end(text: &[u8]) -> &[u8]
+    ensures front { result.now ≡ take (length result.now) text.now }
+    ensures within { length result.now ≤ length text.now }
+{
     let end = text
         .iter()
         .rposition(|b| *b != b' ')
@@ -38,12 +61,15 @@ fn digit(b: u8) -> u32
 // One more digit. Numbers of a script stay far below the bound; a longer one keeps its first digits.
 fn with_digit(n: u32, base: u32, b: u8) -> u32
     requires { base ≤ 16 }
+    ensures { n < 268435456 → result < 268435456 }
 {
     if n < 16777215 { n * base + digit(b) } else { n }
 }
 
 // What a word says as a number; 0 for a word that is none.
-fn number(word: &[u8]) -> u32 {
+fn number(word: &[u8]) -> u32
+    ensures { result < 268435456 }
+{
     let (digits, base) = match word {
         [digits @ .., b'h'] => (digits, 16),
         _ => (word, 10),
@@ -51,6 +77,8 @@ fn number(word: &[u8]) -> u32 {
     digits.iter().fold(0, |n, b| with_digit(n, base, *b))
 }
 
-pub(crate) fn operand(line: &[u8], k: usize) -> u32 {
+pub(crate) fn operand(line: &[u8], k: usize) -> u32
+    ensures { result < 268435456 }
+{
     number(word(line, k))
 }
