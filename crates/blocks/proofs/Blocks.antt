@@ -1,6 +1,7 @@
 -- A block, made of single accesses, is a run over the FIFO alone.
 --   read_in          coming in: what `drained` moves; an ending settles once, after the last byte
 --   none_read        not coming in: nothing is read
+--   read_out_lem     going out: nothing is read
 --   written_out      going out: what `filled` moves
 --   none_written     not going out: nothing is written
 --   written_bytes    a write leaves the slice as it is
@@ -43,6 +44,9 @@ read_by_way l s Out e n = no_read l s (rw e)
 
 pub none_read : (l : List ℕ) (s : State) → s.transfer.direction ≢ In → block_read l s ≡ stopped l s
 none_read l s n = read_by_way l s s.transfer.direction refl n
+
+pub read_out_lem : (l : List ℕ) (s : State) → s.transfer.direction ≡ Out → block_read l s ≡ stopped l s
+read_out_lem l s d = none_read l s (λ i. let c : Out ≡ In = sym d ∙ i in cc)
 
 empty_read : (l : List ℕ) (s : State) → s.transfer.direction ≡ In → is_empty s.fifo ≡ true → block_read l s ≡ stopped l s
 unfolding data_read dbr pick

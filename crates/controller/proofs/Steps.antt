@@ -69,16 +69,16 @@ module _ (l : List ℕ) (o : IsImage l) where
             ∙ sym (register_and_pointer b next (state_of l) start.long h a k);
       })
 
-  pub plain_given : (next : ℕ) (after : List ℕ) → is_plain (state_of l) ≡ true
+  pub plain_given : (b next : ℕ) (after : List ℕ) → is_plain (state_of l) ≡ true
       → next ≡ (get_or l 25 0 + 1) % 256 → after ≡ pick (eqb (length l) image_length) (set l 25 next) l
-      → Returns (accessed false 0 (state_of l)) (Done (get_or l (get_or l 25 0) 0)) after
+      → Returns (accessed false b (state_of l)) (Done (get_or l (get_or l 25 0) 0)) after
   unfolding state_of
-  plain_given next after e w f =
+  plain_given b next after e w f =
       let a = get_or l 25 0 in
       let v : register_at a (state_of l).registers ≡ get_or l a 0 =
       register_at_lem (state_of l) start.long a (plain_below e) ∙ ap (λ (x : List ℕ). get_or x a 0) o.same in
-      let p : accessed false 0 (state_of l) ≡ done (register_at a (state_of l).registers) (set_pointer next (state_of l)) =
-      plain_read (state_of l) e 0 ∙ ap (λ (x : ℕ). done (register_at a (state_of l).registers) (set_pointer x (state_of l))) (sym w) in
+      let p : accessed false b (state_of l) ≡ done (register_at a (state_of l).registers) (set_pointer next (state_of l)) =
+      plain_read (state_of l) e b ∙ ap (λ (x : ℕ). done (register_at a (state_of l).registers) (set_pointer x (state_of l))) (sym w) in
       replied _ _ _ _ p (record { answer = ap Done (sym v); image = (put_pointer_at start after next f).image })
 
   -- after the first store, of the FIFO without its oldest byte, or with one more
@@ -105,31 +105,31 @@ module _ (l : List ℕ) (o : IsImage l) where
           fifo = keeps_bytes.pop_whole (state_of l).fifo start.fifo;
         }
 
+    pub popped_image : IsImage after
+    popped_image = image_is after _ popped_ok (popped after g).image
+
     popped_state : state_of after ≡ set_fifo (pop (state_of l).fifo) (state_of l)
     popped_state = image-says after _ popped_ok (popped after g).image
 
     -- still an image, and data comes in: what settles an ending asks for
     pub popped_in : reads_data (state_of l) ≡ true → IsImage after × ((state_of after).transfer.direction ≡ In)
-    popped_in d = (
-      image_is after _ popped_ok (popped after g).image,
-      ap (λ (x : State). x.transfer.direction) popped_state ∙ coming_in (state_of l) d,
-    )
+    popped_in d = (popped_image, ap (λ (x : State). x.transfer.direction) popped_state ∙ coming_in (state_of l) d)
 
     -- a read of the Data register: where no ending is under way, and where one settles
-    pub data_given : (f : ℕ) → reads_data (state_of l) ≡ true → f ≡ pick (eqb (length l) image_length) (front (state_of l).fifo) 0
-        → in_ending (state_of l) ≡ false → Returns (accessed false 0 (state_of l)) (Done f) after
-    data_given f d h calm =
-        replied _ _ _ _ (data_read_lem (state_of l) d 0)
+    pub data_given : (b f : ℕ) → reads_data (state_of l) ≡ true → f ≡ pick (eqb (length l) image_length) (front (state_of l).fifo) 0
+        → in_ending (state_of l) ≡ false → Returns (accessed false b (state_of l)) (Done f) after
+    data_given b f d h calm =
+        replied _ _ _ _ (data_read_lem (state_of l) d b)
         (record {
           answer = ap Done (oldest f h);
           image = (popped after g).image ∙ ap image_of (sym (settled_quiet (set_fifo (pop (state_of l).fifo) (state_of l)) calm));
         })
 
-    pub data_settled : (f : ℕ) (after₂ : List ℕ) → reads_data (state_of l) ≡ true
+    pub data_settled : (b f : ℕ) (after₂ : List ℕ) → reads_data (state_of l) ≡ true
         → f ≡ pick (eqb (length l) image_length) (front (state_of l).fifo) 0 → after₂ ≡ image_of (settled (state_of after))
-        → Returns (accessed false 0 (state_of l)) (Done f) after₂
-    data_settled f after₂ d h e =
-        replied _ _ _ _ (data_read_lem (state_of l) d 0)
+        → Returns (accessed false b (state_of l)) (Done f) after₂
+    data_settled b f after₂ d h e =
+        replied _ _ _ _ (data_read_lem (state_of l) d b)
         (record { answer = ap Done (oldest f h); image = e ∙ ap (λ (x : State). image_of (settled x)) popped_state })
 
   pub data_written_lem : (b : ℕ) (after : List ℕ) → writes_data (state_of l) ≡ true

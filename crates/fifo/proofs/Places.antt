@@ -1,22 +1,46 @@
 -- The FIFO's part of the image: a part is how many wait, the place of the oldest, and the twelve places.
+--   copied places_long put_over   the places copied out of a part, and into one
 --   front_in popped_in pushed_in   the oldest byte read, taken away, and one byte more, as the code stores them
 --   none_in beyond_in empty_in full_in   where there is none to read or to take, and no room
 --   ends_in                        the ends stored, and the place behind those that waited
 --   ends_put end_put               the ends alone, and how many wait alone
 use mathlib.Core.Path.{◌≡◌, refl, ap, ◌∙◌}
 use mathlib.Core.Logic.{◌≢◌}
-use mathlib.Core.List.{List, [], ◌∷◌}
+use mathlib.Core.List.{List, [], ◌∷◌, ◌++◌, append-nil}
 use Prim.Native.Nat.{ℕ, suc, ◌+◌, ◌-◌, ◌<◌, ◌≤◌}
 use native.Mathlib.Omega.{arith}
 use lib.Dec.{eqb}
-use lib.ListN.{length, take, drop, set, get_or, length-drop, get_or-eq_default}
+use lib.ListN.{length, take, drop, set, get_or, length-drop, drop_of_length-le, get_or-eq_default}
 use lib.Seq.{get_or-drop, get_or-take, length-take-le, take_all}
 use borrow.Author.Tests.{eq-eqb, ne_eqb, lt-ltb, le-ltb}
+use borrow.Rule.Slice.PartMut.{put_mid}
 use Rattle.chip.specs.Choice.{pick}
 use Rattle.chip.specs.Fifo.{is_empty, has_room, front, pop, push, place_behind, round, fifo_bytes, fifo_of, ends_over}
 use Rattle.chip.specs.declared.Fifo.{Fifo}
 use Rattle.chip.proofs.Cases.{by_pick, taken, passed_over}
 use Rattle.chip.proofs.FifoLaws.{bytes_back}
+
+-- a copy over as many bytes or fewer is what was copied
+pub copied : (src dst m : List ℕ) → length dst ≤ length src → m ≡ take (length src) src ++ drop (length src) dst → m ≡ src
+copied src dst m h e =
+    e ∙ ap (λ (x : List ℕ). x ++ drop (length src) dst) (take_all (length src) src (omega arith))
+    ∙ ap (λ (x : List ℕ). src ++ x) (drop_of_length-le dst {i = length src} h)
+    ∙ append-nil src
+
+pub places_long : (l : List ℕ) → length l ≡ 14 → length (take 12 (drop 2 l)) ≡ 12
+places_long l h = length-take-le 12 (drop 2 l) (rw length-drop (omega arith))
+
+-- fourteen bytes stored over as many
+pub put_over : (l b m : List ℕ) (n k : ℕ) → length l ≡ 14 → length b ≡ 12 → m ≡ take (length b) b ++ drop (length b) (take 12 (drop 2 l))
+    → pick (eqb (length (put_mid 2 12 l m)) 14) (set (set (put_mid 2 12 l m) 0 n) 1 k) (put_mid 2 12 l m) ≡ n ∷ k ∷ b
+put_over [] b m n k h z e = absurd (omega arith)
+put_over (x ∷ []) b m n k h z e = absurd (omega arith)
+put_over (x ∷ y ∷ l) b m n k h z e =
+    let over : m ++ drop 12 l ≡ b =
+    ap (λ (r : List ℕ). r ++ drop 12 l) (copied b (take 12 l) m (omega (arith, places_long (x ∷ y ∷ l) h)) e)
+    ∙ ap (λ (r : List ℕ). b ++ r) (drop_of_length-le l {i = 12} (omega arith)) ∙ append-nil b in
+    ap (λ (r : List ℕ). pick (eqb (length (x ∷ y ∷ r)) 14) (n ∷ k ∷ r) (x ∷ y ∷ r)) over
+    ∙ taken _ _ (eq-eqb (length (x ∷ y ∷ b)) 14 (omega arith))
 
 -- a place, counted from the part's first byte
 from_start : (n : ℕ) → 2 + n ≡ suc (suc n)

@@ -1,5 +1,5 @@
 -- `fifo::bulk::drain`: its loop goes as `drained`.
-use Rattle.std.proofs.Common.{ℕ, List, length, get_or, ◌≡◌, ◌≢◌, ◌≤◌, ◌<◌, true, false, refl, sym, ◌∙◌, arith, eq-eqb, ne_eqb}
+use Rattle.std.proofs.Common.{ℕ, List, length, get_or, ◌+◌, ◌≡◌, ◌≢◌, ◌≤◌, ◌<◌, true, false, refl, sym, ◌∙◌, arith, eq-eqb, ne_eqb}
 use lib.Seq.{drop-cons, set-get_or}
 use Rattle.chip.specs.Fifo.{is_empty}
 use Rattle.chip.specs.declared.Fifo.{Fifo}
@@ -48,7 +48,7 @@ loop-byte-preserved c =
     record {
       place = c.next-first.ensures.within;
       number = omega (arith, c.loop-byte.invariant.number, c.if-held-eq0.false);
-      going = turn c.loop-byte.invariant.going _ _ h
+      going = turn c.loop-byte.invariant.going _ (get_or p (2 + f) 0) h
           (rw (
             drop-cons c.loop-byte.out c.loop-byte.byte-index 0 h,
             some_front p f n e c.loop-byte.invariant.place,
