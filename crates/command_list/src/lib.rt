@@ -109,10 +109,10 @@ pub fn is_place(p: Place, s: State) -> bool
         Place::WhenDisconnected => connection == Connection::Disconnected,
         Place::WhenConnected => connection == Connection::Connected,
         Place::WhenConnectedOrWaiting => {
-            matches!(connection, Connection::Connected | Connection::Waiting)
+            connection == Connection::Connected || connection == Connection::Waiting
         }
         Place::WhenConnectedOrDisconnected => {
-            matches!(connection, Connection::Connected | Connection::Disconnected)
+            connection == Connection::Connected || connection == Connection::Disconnected
         }
     }
 }

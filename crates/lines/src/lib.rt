@@ -14,6 +14,7 @@ ghost use Rattle.chip.specs.Lines.{
   code_of,
   own_identity,
   destination,
+  same_identity,
   lun_of,
   identify,
   line_of,
@@ -98,6 +99,13 @@ pub fn destination(s: State) -> Identity
     Identity {
         number: s.registers.destination & 7,
     }
+}
+
+#[tactic(auto, unfolding(chip::specs::Lines::same_identity))]
+pub fn same_identity(i: Identity, j: Identity) -> bool
+    ensures { result ≡ same_identity i j }
+{
+    i == j
 }
 
 #[tactic(auto, unfolding(chip::specs::Lines::lun_of))]
