@@ -2,7 +2,7 @@
 -- state as the code reads it.
 --   state_is way_is image_is   the state that bytes say, the way of its data, and bytes that are a state's image
 --   drained_in filled_in    many bytes moved there
---   settled_made            an ending settled, where data comes in
+--   settled_made still_waits   an ending settled, where data comes in; nothing settled while bytes wait
 --   read_none read_settled read_calm   a block read: nothing moved, an ending settled, none under way
 --   written_made            a block written
 use mathlib.Core.Path.{◌≡◌, ap, sym, subst, ◌∙◌}
@@ -14,7 +14,7 @@ use lib.ListN.{length, take}
 use borrow.Author.Tests.{eq-eqb, ne_eqb}
 use Rattle.chip.specs.Choice.{pick, both}
 use Rattle.chip.specs.Count.{left}
-use Rattle.chip.specs.Fifo.{fifo_bytes, Goes, stays, Whole}
+use Rattle.chip.specs.Fifo.{fifo_bytes, is_empty, Goes, stays, Whole}
 use Rattle.chip.specs.Image.{image_length, image_of, state_of, fifo_place}
 use Rattle.chip.specs.Interrupts.{in_ending, settled}
 use Rattle.chip.specs.Ok.{Ok}
@@ -79,6 +79,14 @@ module _ (l : List ℕ) (o : IsImage l) where
       let is : u ≡ settled (state_of l) = f ∙ ap settled (state_is t e) in
       let same : u.fifo ≡ (state_of l).fifo = ap (λ (x : State). x.fifo) is ∙ settled_in (state_of l) d in
       w o (subst (Goes (state_of l).fifo) (sym same) stays) ∙ ap image_of is
+
+  -- while bytes wait it does not
+  pub still_waits : (t : State) → t ≡ pick (eqb (length l) image_length) (state_of l) fresh → is_empty t.fifo ≡ false
+      → l ≡ image_of (settled (state_of l))
+  unfolding settled
+  still_waits t e w =
+      let waits : is_empty (state_of l).fifo ≡ false = ap (λ (x : State). is_empty x.fifo) (sym (state_is t e)) ∙ w in
+      sym o.same ∙ ap image_of (sym (passed_over _ _ waits))
 
   -- a block read: n bytes moved, after which the image is a and the slice z
 

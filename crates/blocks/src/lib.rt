@@ -13,13 +13,19 @@ use image::waiting;
 
 // That the bytes are an image is required by each function, as in controller's in_place.rt, where the reason stands.
 
-// What an ending comes to once the FIFO is read out. Data comes in, so no byte of the FIFO changes.
+// What an ending comes to once the FIFO is read out; nothing is stored while bytes wait. Data comes in, so no byte of the FIFO changes, nor does
+// a command byte: those are taken from the state before, so that the compiler carries them through no copy of the state.
 pub fn settle(image: &mut [u8])
     requires { IsImage image.old × ((state_of image.old).transfer.direction ≡ Direction.In) }
     ensures { image.new ≡ image_of (settled (state_of image.old)) }
 {
     let s = image::state(image);
-    let settled = interrupts::settled(s);
+    if !fifo::is_empty(s.fifo) {
+        return;
+    }
+    let cdb = s.registers.descriptor.cdb;
+    let mut settled = interrupts::settled(s);
+    settled.registers.descriptor.cdb = cdb;
     image::write_on(settled, image);
 }
 

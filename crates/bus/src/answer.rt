@@ -34,10 +34,9 @@ fn answered_selecting(s: State) -> Reply
     let mut t = answered_state(s);
     if activity::is_select_and_transfer(s) {
         t.registers.descriptor.phase = 0x10;
-    } else {
-        t = interrupts::raise(0x11, t);
+        return says(Answer::Done(0), t);
     }
-    says(Answer::Done(0), t)
+    says(Answer::Done(0), interrupts::raise(0x11, t))
 }
 
 // No selection runs.
@@ -46,10 +45,9 @@ fn answered_elsewhere(s: State) -> Reply
     ensures { result ≡ answered_elsewhere s }
 {
     if s.wire.connection == Connection::Selecting && interrupts::in_ending(s) {
-        says(Answer::Held, s)
-    } else {
-        says(Answer::OutOfPlace, s)
+        return says(Answer::Held, s);
     }
+    says(Answer::OutOfPlace, s)
 }
 
 #[tactic(auto, unfolding(chip::specs::Events::answered, chip::specs::Choice::pick))]
@@ -57,8 +55,7 @@ pub fn answered(s: State) -> Reply
     ensures { result ≡ answered s }
 {
     if time::selects(s) {
-        answered_selecting(s)
-    } else {
-        answered_elsewhere(s)
+        return answered_selecting(s);
     }
+    answered_elsewhere(s)
 }

@@ -23,10 +23,9 @@ fn idle_free(s: State) -> Reply
     ensures { result ≡ idle_free s }
 {
     if interrupts::interrupted(s) {
-        says(Answer::Held, s)
-    } else {
-        says(Answer::Done(0), interrupts::raise(0x85, bus_free(s)))
+        return says(Answer::Held, s);
     }
+    says(Answer::Done(0), interrupts::raise(0x85, bus_free(s)))
 }
 
 #[tactic(auto, unfolding(chip::specs::Events::freed_running, chip::specs::Choice::pick))]
@@ -34,12 +33,12 @@ fn freed_running(s: State) -> Reply
     ensures { result ≡ freed_running s }
 {
     if activity::is_select_and_transfer(s) {
-        select_and_transfer::free::freed(s, bus_free(s))
-    } else if activity::is_transfer_info(s) {
-        transfer_info::free(s, bus_free(s))
-    } else {
-        idle_free(s)
+        return select_and_transfer::free::freed(s, bus_free(s));
     }
+    if activity::is_transfer_info(s) {
+        return transfer_info::free(s, bus_free(s));
+    }
+    idle_free(s)
 }
 
 #[tactic(auto, unfolding(chip::specs::Events::freed, chip::specs::Choice::pick))]
@@ -47,10 +46,10 @@ pub fn freed(s: State) -> Reply
     ensures { result ≡ freed s }
 {
     if s.wire.connection != Connection::Connected {
-        says(Answer::OutOfPlace, s)
-    } else if interrupts::in_ending(s) {
-        says(Answer::Held, s)
-    } else {
-        freed_running(s)
+        return says(Answer::OutOfPlace, s);
     }
+    if interrupts::in_ending(s) {
+        return says(Answer::Held, s);
+    }
+    freed_running(s)
 }

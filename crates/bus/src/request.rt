@@ -25,12 +25,12 @@ fn requested_running(request: Request, s: State) -> Reply
     ensures { result ≡ requested_running request.phase request.byte request.bad s }
 {
     if activity::is_select_and_transfer(s) {
-        select_and_transfer::request(request, s)
-    } else if activity::is_transfer_info(s) {
-        transfer_info::request(request, s)
-    } else {
-        idle_request(request.phase, s)
+        return select_and_transfer::request(request, s);
     }
+    if activity::is_transfer_info(s) {
+        return transfer_info::request(request, s);
+    }
+    idle_request(request.phase, s)
 }
 
 #[tactic(auto, unfolding(chip::specs::Events::requested_connected, chip::specs::Choice::pick))]
@@ -38,10 +38,9 @@ fn requested_connected(request: Request, s: State) -> Reply
     ensures { result ≡ requested_connected request.phase request.byte request.bad s }
 {
     if interrupts::in_ending(s) || s.wire.handshake.ack {
-        says(Answer::Held, s)
-    } else {
-        requested_running(request, s)
+        return says(Answer::Held, s);
     }
+    requested_running(request, s)
 }
 
 // A Request comes to the running command.
@@ -64,14 +63,12 @@ fn remembered(p: Phase, mut r: Reply) -> Reply
 }
 
 // "Connected only."
-#[tactic(auto, unfolding(chip::specs::Events::requested, chip::specs::Choice::pick))]
+#[tactic(auto, unfolding(chip::specs::Events::requested, chip::specs::Events::remembered, chip::specs::Choice::pick))]
 pub fn requested(request: Request, s: State) -> Reply
     ensures { result ≡ requested request.phase request.byte request.bad s }
 {
-    let reply = if s.wire.connection == Connection::Connected {
-        requested_connected(request, s)
-    } else {
-        says(Answer::OutOfPlace, s)
-    };
-    remembered(request.phase, reply)
+    if s.wire.connection != Connection::Connected {
+        return says(Answer::OutOfPlace, s);
+    }
+    remembered(request.phase, requested_connected(request, s))
 }

@@ -26,13 +26,16 @@ fn reselected_with_code(data_lines: u8, s: State) -> Reply
     says(Answer::Done(0), interrupts::raise(0x80, t))
 }
 
-#[tactic(auto, unfolding(chip::specs::Events::names_target, chip::specs::Choice::both, chip::specs::Lines::same_identity))]
+#[tactic(auto, unfolding(chip::specs::Events::names_target, chip::specs::Choice::both))]
 fn names_target(data_lines: u8, s: State) -> bool
     ensures { result ≡ names_target data_lines s }
 {
     activity::is_select_and_transfer(s)
         && lines::are_two(data_lines)
-        && lines::other_identity(s.wire.identity, data_lines) == lines::destination(s)
+        && lines::same_identity(
+            lines::other_identity(s.wire.identity, data_lines),
+            lines::destination(s),
+        )
 }
 
 // A waiting Select-And-Transfer that is called back by its Target goes on.
@@ -56,10 +59,10 @@ pub fn reselected(data_lines: u8, s: State) -> Reply
     ensures { result ≡ reselected data_lines s }
 {
     if !lines::qualifies(data_lines, s) {
-        says(Answer::ReselectionIgnored, s)
-    } else if s.wire.connection == Connection::Connected {
-        says(Answer::OutOfPlace, s)
-    } else {
-        reselected_apart(data_lines, s)
+        return says(Answer::ReselectionIgnored, s);
     }
+    if s.wire.connection == Connection::Connected {
+        return says(Answer::OutOfPlace, s);
+    }
+    reselected_apart(data_lines, s)
 }

@@ -45,8 +45,7 @@ pub fn passed(n: u8, s: State) -> Reply
     ensures { result ≡ passed n s }
 {
     if selects(s) {
-        selection_time(n, s)
-    } else {
-        says(Answer::Done(0), s)
+        return selection_time(n, s);
     }
+    says(Answer::Done(0), s)
 }

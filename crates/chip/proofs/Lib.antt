@@ -19,3 +19,4 @@ pub mod ImageFields
 pub mod ImageRegisters
 pub mod Moves
 pub mod FifoSteps
+pub mod CommandBytes

@@ -34,11 +34,10 @@ pub fn aborted(mut s: State) -> State
     if s.wire.connection == Connection::Connected {
         let phase = s.wire.seen.last.unwrap_or(Phase::MessageOut);
         s.wire.seen.reported = Some(phase);
-        interrupts::ending_with(phases::coded(0x28, phase), s)
-    } else {
-        s.wire.connection = Connection::Disconnected;
-        interrupts::raise(0x22, s)
+        return interrupts::ending_with(phases::coded(0x28, phase), s);
     }
+    s.wire.connection = Connection::Disconnected;
+    interrupts::raise(0x22, s)
 }
 
 #[tactic(auto, unfolding(chip::specs::Commands::disconnected))]
@@ -69,10 +68,9 @@ pub fn select_and_transfer_begun(r: Command, s: State) -> State
     ensures { result ≡ select_and_transfer_begun r s }
 {
     if s.wire.connection == Connection::Connected {
-        resume::resumed(r, s)
-    } else {
-        selecting(r, resume::from_disconnected(s))
+        return resume::resumed(r, s);
     }
+    selecting(r, resume::from_disconnected(s))
 }
 
 #[tactic(auto, unfolding(chip::specs::Choice::pick))]

@@ -54,11 +54,10 @@ pub fn commanded(b: u8, s: State) -> Reply
     }
     let t = accept::accepted(b, s);
     if asked.is_valid(s) {
-        answers::says(
+        return answers::says(
             Answer::Done(0),
             carried_out(asked.code, lines::is_single(b), t),
-        )
-    } else {
-        answers::says(Answer::Done(0), interrupts::interrupt(0x40, t))
+        );
     }
+    answers::says(Answer::Done(0), interrupts::interrupt(0x40, t))
 }

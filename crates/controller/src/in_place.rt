@@ -14,7 +14,7 @@ ghost use Rattle.chip.specs.Registers.{accessed, auxiliary_read, block_read, blo
 ghost use Rattle.controller.specs.Returns.{Returns, Serves, ServesBlock, Tells};
 ghost use Rattle.image.specs.IsImage.{IsImage};
 
-use crate::operands::{BadNumber, state_of};
+use crate::operands::{BadNumber, test_image};
 use answers::result;
 use bus::{answer, free, request, reselection, time};
 use chip::{Answer, Connection, Phase, Reply, Request, State};
@@ -37,6 +37,17 @@ fn finish(r: Reply, image: &mut [u8]) -> Answer
 {
     image::write(r.state, image);
     r.answer
+}
+
+// No Request changes a command byte (chip's proofs/CommandBytes.antt): they are taken from the state before, so that the
+// compiler carries them through no copy of the state.
+fn kept(s: State, mut r: Reply) -> Reply
+    requires { r.state.registers.descriptor.cdb ≡ s.registers.descriptor.cdb }
+    ensures { result ≡ r }
+{
+    let cdb = s.registers.descriptor.cdb;
+    r.state.registers.descriptor.cdb = cdb;
+    r
 }
 
 // One of registers 00 to 16h is read. "The 8-bit address pointer uses the supplied wrapping add at every address but three."
@@ -106,12 +117,13 @@ fn written_whole(byte: u8, image: &mut [u8]) -> Answer
 }
 
 // At most one byte came into the FIFO, so of its places that one's alone is stored.
-#[tactic(auto, using(chip::proofs::FifoSteps::requested_goes))]
+#[tactic(auto, using(chip::proofs::FifoSteps::requested_goes, chip::proofs::CommandBytes::requested_keeps))]
 fn request_whole(request: Request, image: &mut [u8]) -> Answer
     requires { IsImage image.old }
     ensures { Returns (requested request.phase request.byte request.bad (state_of image.old)) result image.new }
 {
-    let r = request::requested(request, state(image));
+    let s = state(image);
+    let r = kept(s, request::requested(request, s));
     image::write_on(r.state, image);
     r.answer
 }
@@ -158,11 +170,12 @@ fn byte_sent(byte: u8, bad: bool, image: &mut [u8]) -> Answer
 pub(crate) fn pointer(writes: bool, byte: u8, image: &mut [u8]) -> Result<u32, BadNumber>
     ensures { Serves (λ s. pick writes (pointer_set byte s) (pointer_read s)) result image.old image.new }
 {
-    let s = state_of(image)?;
+    test_image(image)?;
     if writes {
         store::pointer(byte, image);
         return Ok(result(Answer::Done(0)));
     }
+    let s = state(image);
     Ok(result(Answer::Done(s.status.pointer)))
 }
 
@@ -170,7 +183,8 @@ pub(crate) fn pointer(writes: bool, byte: u8, image: &mut [u8]) -> Result<u32, B
 pub(crate) fn auxiliary(image: &mut [u8]) -> Result<u32, BadNumber>
     ensures { Serves auxiliary_read result image.old image.new }
 {
-    let s = state_of(image)?;
+    test_image(image)?;
+    let s = state(image);
     Ok(result(host::auxiliary_read(s).answer))
 }
 
@@ -178,7 +192,8 @@ pub(crate) fn auxiliary(image: &mut [u8]) -> Result<u32, BadNumber>
 pub(crate) fn register(writes: bool, byte: u8, image: &mut [u8]) -> Result<u32, BadNumber>
     ensures { Serves (accessed writes byte) result image.old image.new }
 {
-    let s = state_of(image)?;
+    test_image(image)?;
+    let s = state(image);
     Ok(if moves::is_plain(s) {
         if writes {
             result(plain_written(byte, image))
@@ -202,7 +217,7 @@ pub(crate) fn register(writes: bool, byte: u8, image: &mut [u8]) -> Result<u32, 
 pub(crate) fn block(writes: bool, bytes: &mut [u8], image: &mut [u8]) -> Result<u32, BadNumber>
     ensures { ServesBlock (λ s. pick writes (block_written bytes.old s) (block_read bytes.old s)) result image.old image.new bytes.old bytes.new }
 {
-    state_of(image)?;
+    test_image(image)?;
     Ok(result(Answer::Done(if writes {
         blocks::block_written(image, bytes)
     } else {
@@ -215,7 +230,8 @@ pub(crate) fn block(writes: bool, bytes: &mut [u8], image: &mut [u8]) -> Result<
 pub(crate) fn time(units: u8, image: &mut [u8]) -> Result<u32, BadNumber>
     ensures { Serves (passed units) result image.old image.new }
 {
-    let s = state_of(image)?;
+    test_image(image)?;
+    let s = state(image);
     if !time::selects(s) {
         return Ok(result(Answer::Done(0)));
     }
@@ -225,7 +241,8 @@ pub(crate) fn time(units: u8, image: &mut [u8]) -> Result<u32, BadNumber>
 pub(crate) fn answer(image: &mut [u8]) -> Result<u32, BadNumber>
     ensures { Serves answered result image.old image.new }
 {
-    let s = state_of(image)?;
+    test_image(image)?;
+    let s = state(image);
     Ok(result(finish(answer::answered(s), image)))
 }
 
@@ -234,7 +251,8 @@ pub(crate) fn answer(image: &mut [u8]) -> Result<u32, BadNumber>
 pub(crate) fn reselection(data_lines: u8, image: &mut [u8]) -> Result<u32, BadNumber>
     ensures { Serves (reselected data_lines) result image.old image.new }
 {
-    let s = state_of(image)?;
+    test_image(image)?;
+    let s = state(image);
     if !lines::qualifies(data_lines, s) {
         return Ok(result(Answer::ReselectionIgnored));
     }
@@ -292,7 +310,7 @@ fn request_out(byte: u8, bad: bool, image: &mut [u8]) -> u32
 pub(crate) fn request(request: Request, image: &mut [u8]) -> Result<u32, BadNumber>
     ensures { Serves (requested request.phase request.byte request.bad) result image.old image.new }
 {
-    state_of(image)?;
+    test_image(image)?;
     Ok(if request.phase == Phase::DataOut {
         request_out(request.byte, request.bad, image)
     } else if request.phase == Phase::DataIn && !request.bad {
@@ -307,7 +325,8 @@ pub(crate) fn request(request: Request, image: &mut [u8]) -> Result<u32, BadNumb
 pub(crate) fn free(image: &mut [u8]) -> Result<u32, BadNumber>
     ensures { Serves freed result image.old image.new }
 {
-    let s = state_of(image)?;
+    test_image(image)?;
+    let s = state(image);
     if s.wire.connection != Connection::Connected {
         return Ok(result(Answer::OutOfPlace));
     }

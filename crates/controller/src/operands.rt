@@ -3,12 +3,12 @@
 
 ghost use Rattle.std.specs.Prelude.{◌≡◌, OnOk};
 ghost use Rattle.chip.specs.Calls.{is_bus_phase, is_byte, is_mark, is_set};
-ghost use Rattle.chip.specs.Image.{is_image, state_of};
+ghost use Rattle.chip.specs.Image.{is_image};
 ghost use Rattle.chip.specs.Phases.{phase_of};
 ghost use Rattle.controller.specs.Operands.{tested};
 ghost use Rattle.image.specs.IsImage.{IsImage};
 
-use chip::{Phase, State};
+use chip::Phase;
 
 // What makes a call Bad number: bytes that are no state's image, or an operand out of its range. C is told the two alike.
 #[derive(Clone, Copy, PartialEq, Eq, Drop)]
@@ -49,13 +49,12 @@ pub(crate) fn phase_of(number: u32) -> Result<Phase, BadNumber>
     }
 }
 
-// The state whose image the bytes are.
-#[tactic(auto, using(crate::proofs::Entry::long_enough), unfolding(chip::specs::Choice::pick))]
-pub(crate) fn state_of(image: &[u8]) -> Result<State, BadNumber>
-    ensures { (result ≡ tested BadNumber.Image (is_image image.now) (state_of image.now)) × OnOk result (IsImage image.now) }
+// That the bytes are a state's image. The state is not given along: not every call asks for it, and inside a Result it is copied twice.
+pub(crate) fn test_image(image: &[u8]) -> Result<(), BadNumber>
+    ensures { (result ≡ tested BadNumber.Image (is_image image.now) tt) × OnOk result (IsImage image.now) }
 {
     if image::is_image(image) {
-        Ok(image::state(image))
+        Ok(())
     } else {
         Err(BadNumber::Image)
     }

@@ -11,10 +11,9 @@ pub fn data_read(mut s: State) -> Reply
     if s.transfer.direction == Direction::In && count::dbr(s) {
         let byte = fifo::front(s.fifo);
         s.fifo = fifo::pop(s.fifo);
-        answers::says(Answer::Done(byte), interrupts::settled(s))
-    } else {
-        answers::says(Answer::NoDataNow, s)
+        return answers::says(Answer::Done(byte), interrupts::settled(s));
     }
+    answers::says(Answer::NoDataNow, s)
 }
 
 #[tactic(auto, unfolding(chip::specs::Registers::data_written, chip::specs::Choice::pick))]
@@ -23,8 +22,7 @@ pub fn data_written(b: u8, mut s: State) -> Reply
 {
     if s.transfer.direction == Direction::Out && count::dbr(s) {
         s.fifo = fifo::push(b, s.fifo);
-        answers::says(Answer::Done(0), s)
-    } else {
-        answers::says(Answer::NoDataNow, s)
+        return answers::says(Answer::Done(0), s);
     }
+    answers::says(Answer::NoDataNow, s)
 }

@@ -79,12 +79,12 @@ fn accessed_at(a: u8, writes: bool, b: u8, s: State) -> Reply
     ensures { result ≡ accessed_at a writes b s }
 {
     if is_blind(writes, a, s) {
-        answers::says(Answer::Blind, s)
-    } else if writes {
-        written_at(a, b, s)
-    } else {
-        read_at(a, s)
+        return answers::says(Answer::Blind, s);
     }
+    if writes {
+        return written_at(a, b, s);
+    }
+    read_at(a, s)
 }
 
 // The mark and the byte are two operands, as in the definition and the C entry: a read may come with any byte.

@@ -67,10 +67,9 @@ pub fn ending_with(k: u8, mut s: State) -> State
 {
     if bytes_unread(s) {
         s.activity = activity::ends(k, s.activity);
-        s
-    } else {
-        raise(k, s)
+        return s;
     }
+    raise(k, s)
 }
 
 // What an ending comes to once the FIFO is read out.

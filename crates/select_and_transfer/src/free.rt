@@ -26,8 +26,7 @@ pub fn freed(s: State, mut t: State) -> Reply
 {
     if s.registers.descriptor.phase == 0x42 {
         t.registers.descriptor.phase = 0x43;
-        free_after_disconnect(s, t)
-    } else {
-        says(Answer::Done(0), interrupts::ending_with(0x41, t))
+        return free_after_disconnect(s, t);
     }
+    says(Answer::Done(0), interrupts::ending_with(0x41, t))
 }

@@ -47,9 +47,10 @@ fn send_command(x: u8, p: Phase, s: State) -> Reply
     if p != Phase::CommandOut {
         return take::unexpected(p, s);
     }
+    let cdb = s.registers.descriptor.cdb;
     let mut t = s;
     t.registers.descriptor.phase = 0x31 + x;
-    says(Answer::Done(s.registers.descriptor.cdb[x as usize]), t)
+    says(Answer::Done(cdb[x as usize]), t)
 }
 
 #[tactic(auto, unfolding(chip::specs::SelectAndTransfer::phase_after, chip::specs::Choice::pick))]

@@ -24,10 +24,9 @@ pub(crate) fn unless_halted(request: Request, s: State, t: State) -> Reply
     ensures { result ≡ unless_halted request.bad s (done request.byte t) }
 {
     if transfer_info::halts(request, s) {
-        transfer_info::halted(s)
-    } else {
-        says(Answer::Done(request.byte), t)
+        return transfer_info::halted(s);
     }
+    says(Answer::Done(request.byte), t)
 }
 
 #[tactic(auto, unfolding(chip::specs::SelectAndTransfer::take_status))]

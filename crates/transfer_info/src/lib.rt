@@ -100,12 +100,12 @@ fn offered(request: Request, s: State) -> Reply
     ensures { result ≡ transfer_info_offered request.phase request.byte request.bad s }
 {
     if !fifo::has_room(s.fifo) {
-        says(Answer::Held, s)
-    } else if halts(request, s) {
-        halted(s)
-    } else {
-        taken(request, s)
+        return says(Answer::Held, s);
     }
+    if halts(request, s) {
+        return halted(s);
+    }
+    taken(request, s)
 }
 
 #[tactic(auto, unfolding(chip::specs::TransferInfo::over_code, chip::specs::Choice::pick))]
@@ -146,12 +146,12 @@ pub fn request(request: Request, s: State) -> Reply
     let p = request.phase;
     let moves = is_reported(p, s) && !count::none_left(s);
     if !moves {
-        over(p, s)
-    } else if phases::comes_in(p) {
-        offered(request, s)
-    } else {
-        sent(p, s)
+        return over(p, s);
     }
+    if phases::comes_in(p) {
+        return offered(request, s);
+    }
+    sent(p, s)
 }
 
 // What a Free does to it. t is s with the bus free.
