@@ -1,4 +1,4 @@
-// The tests of what C passes: each gives the value, or says that the call is Bad number.
+// The tests of what C passes: each gives the value, and that of the image none, or says that the call is Bad number.
 #![tactic(auto, unfolding(chip::specs::Choice::pick))]
 
 ghost use Rattle.std.specs.Prelude.{◌≡◌, OnOk};

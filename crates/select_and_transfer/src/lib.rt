@@ -47,6 +47,7 @@ fn send_command(x: u8, p: Phase, s: State) -> Reply
     if p != Phase::CommandOut {
         return take::unexpected(p, s);
     }
+    // A copy of the command bytes: an index into the state itself would keep all of it in memory.
     let cdb = s.registers.descriptor.cdb;
     let mut t = s;
     t.registers.descriptor.phase = 0x31 + x;

@@ -87,10 +87,11 @@ impl FirstReads {
     // The list of all codes.
     pub(crate) fn say_all(&self) {
         for (code, row) in &CODES {
+            say(b"  ");
             match self.session_of(*code) {
-                None => say(b"  NEVER READ  "),
+                None => say(b"NEVER READ  "),
                 Some(session) => {
-                    say(b"  session");
+                    say(b"session");
                     names::say_number(session.get());
                     say(b"  ");
                 }
