@@ -1,19 +1,16 @@
 -- A line's words, taken off one by one: past the blanks stands the first, and behind its end stand the others.
-use Rattle.std.proofs.Common.{◌≡◌, ◌==◌, ◌≤◌, ◌+◌, ◌-◌, ℕ, suc, Bool, true, false, not, cond, List, [], ◌∷◌, length, take, drop, filter, Option, Some, None, unwrap_or, refl, ap, ap₂, ◌∙◌, sym, arith}
+--   first_place   the place that `position` finds, or the end
+--   first_split   what stands before and behind such places: the first word, and the line of the others
+use Rattle.std.proofs.Common.{◌≡◌, ◌==◌, ◌≤◌, ◌+◌, ◌-◌, ℕ, suc, Bool, true, false, not, cond, List, [], ◌∷◌, length, take, drop, Option, Some, None, unwrap_or, refl, ap, ap₂, ◌∙◌, sym, arith}
 use Rattle.std.proofs.lemmas.List.{take_rest}
 use Rattle.std.proofs.lemmas.List.Splits.{slice_split-cons_yes, slice_split-cons_no}
 use Rattle.std.proofs.lemmas.List.Sums.{prefix_len-le-length}
 use Rattle.std.specs.List.{slice_get, slice_split, onto_first, position_or_len}
 use lib.Dec.{ltb}
-
-abbrev pub is_blank : ℕ → Bool
-is_blank b = b == 32
+use Rattle.sessions.specs.Words.{is_blank, not_empty, words}
 
 abbrev pub is_sign : ℕ → Bool
-is_sign b = not (b == 32)
-
-abbrev pub words : List ℕ → List (List ℕ)
-words line = filter (λ part. not (length part == 0)) (slice_split is_blank line)
+is_sign b = not (is_blank b)
 
 abbrev pub past_blanks : List ℕ → List ℕ
 past_blanks line = drop (position_or_len is_sign line) line
@@ -36,19 +33,19 @@ longer : (b : ℕ) (line : List ℕ) → is_blank b ≡ false
 longer b line e = (rw e refl, rw e (take_next _ b line), rw e (drop_next _ b line))
 
 -- The first piece ends at the first blank, and the pieces after it have the words of what stands from there on.
-first_piece : (line : List ℕ) → (others : List (List ℕ)) × (slice_split is_blank line ≡ word_of line ∷ others) × (filter (λ part. not (length part == 0)) others ≡ words (after_word line))
+first_piece : (line : List ℕ) → (others : List (List ℕ)) × (slice_split is_blank line ≡ word_of line ∷ others) × (not_empty others ≡ words (after_word line))
 first_piece [] = ([], refl, refl)
 first_piece (b ∷ line) = go (is_blank b) refl (first_piece line) where
-  go : (t : Bool) → is_blank b ≡ t → (others : List (List ℕ)) × (slice_split is_blank line ≡ word_of line ∷ others) × (filter (λ part. not (length part == 0)) others ≡ words (after_word line))
-      → (others : List (List ℕ)) × (slice_split is_blank (b ∷ line) ≡ word_of (b ∷ line) ∷ others) × (filter (λ part. not (length part == 0)) others ≡ words (after_word (b ∷ line)))
+  go : (t : Bool) → is_blank b ≡ t → (others : List (List ℕ)) × (slice_split is_blank line ≡ word_of line ∷ others) × (not_empty others ≡ words (after_word line))
+      → (others : List (List ℕ)) × (slice_split is_blank (b ∷ line) ≡ word_of (b ∷ line) ∷ others) × (not_empty others ≡ words (after_word (b ∷ line)))
   go true e more =
       let here : after_word (b ∷ line) ≡ b ∷ line = rw e refl in
-      (slice_split is_blank line, rw e refl, sym (ap words here ∙ ap (filter (λ part. not (length part == 0))) (slice_split-cons_yes is_blank b line e)))
+      (slice_split is_blank line, rw e refl, sym (ap words here ∙ ap not_empty (slice_split-cons_yes is_blank b line e)))
   go false e more =
       let word = longer b line e in
       (more.0, slice_split-cons_no is_blank b line e ∙ ap (onto_first b) more.1 ∙ ap (λ w. w ∷ more.0) (sym word.1), more.2 ∙ ap words (sym word.2))
 
-keeps_word : (b : ℕ) (word : List ℕ) (others : List (List ℕ)) → filter (λ part. not (length part == 0)) ((b ∷ word) ∷ others) ≡ (b ∷ word) ∷ filter (λ part. not (length part == 0)) others
+keeps_word : (b : ℕ) (word : List ℕ) (others : List (List ℕ)) → not_empty ((b ∷ word) ∷ others) ≡ (b ∷ word) ∷ not_empty others
 keeps_word b word others =
     let e : (length (b ∷ word) == 0) ≡ false = grind arith in
     rw e refl
@@ -66,7 +63,7 @@ first_word (b ∷ line) = go (is_blank b) refl (first_word line) where
       let word = longer b line e in
       let piece = first_piece line in
       let kept : words (b ∷ line) ≡ (b ∷ word_of line) ∷ words (after_word line) =
-      ap (filter (λ part. not (length part == 0))) (slice_split-cons_no is_blank b line e ∙ ap (onto_first b) piece.1) ∙ keeps_word b (word_of line) piece.0 ∙ ap (λ others. (b ∷ word_of line) ∷ others) piece.2 in (
+      ap not_empty (slice_split-cons_no is_blank b line e ∙ ap (onto_first b) piece.1) ∙ keeps_word b (word_of line) piece.0 ∙ ap (λ others. (b ∷ word_of line) ∷ others) piece.2 in (
         ap (λ parts. unwrap_or (slice_get parts 0) []) kept ∙ sym word.1 ∙ ap word_of (sym word.0),
         ap (drop 1) kept ∙ ap words (sym word.2) ∙ ap (λ rest. words (after_word rest)) (sym word.0),
       )

@@ -1,11 +1,12 @@
 // A line of the script taken apart: words are what stands between blanks, a number is decimal, or hexadecimal where an h ends it.
-ghost use Rattle.std.specs.Prelude.{◌<◌, ◌≤◌, length, IfSome, ◌≡◌, ◌==◌, ℕ, [], ◌∷◌, ◌++◌, filter, not, take, drop, unwrap_or};
-ghost use Rattle.std.specs.List.{slice_get, slice_split};
+ghost use Rattle.std.specs.Prelude.{◌<◌, ◌≤◌, length, IfSome, ◌≡◌, ℕ, [], ◌∷◌, ◌++◌, take, drop, unwrap_or};
+ghost use Rattle.std.specs.List.{slice_get};
+ghost use Rattle.sessions.specs.Words.{words};
 
-// The first word of a line, and what stands after it; both are empty where there is none. 32 is the blank.
+// The first word of a line, and what stands after it; both are empty where there is none.
 fn split_word(line: &[u8]) -> (&[u8], &[u8])
-    ensures first { result.0.now ≡ unwrap_or (slice_get (filter (λ part. not (length part == 0)) (slice_split (λ b. b == 32) line.now)) 0) [] }
-    ensures after { filter (λ part. not (length part == 0)) (slice_split (λ b. b == 32) result.1.now) ≡ drop 1 (filter (λ part. not (length part == 0)) (slice_split (λ b. b == 32) line.now)) }
+    ensures first { result.0.now ≡ unwrap_or (slice_get (words line.now) 0) [] }
+    ensures after { words result.1.now ≡ drop 1 (words line.now) }
     ensures within { (length result.0.now ≤ length line.now) × (length result.1.now ≤ length line.now) }
 {
     let start = line.iter().position(|b| *b != b' ').unwrap_or(line.len());
@@ -16,7 +17,7 @@ fn split_word(line: &[u8]) -> (&[u8], &[u8])
 
 // Word k of a line, counted from 0; an empty one where there are fewer.
 pub(crate) fn word(line: &[u8], k: usize) -> &[u8]
-    ensures value { result.now ≡ unwrap_or (slice_get (filter (λ part. not (length part == 0)) (slice_split (λ b. b == 32) line.now)) k) [] }
+    ensures value { result.now ≡ unwrap_or (slice_get (words line.now) k) [] }
     ensures within { length result.now ≤ length line.now }
 {
     let mut rest = line;

@@ -2,7 +2,8 @@
 use Rattle.std.proofs.Common.{refl, rules, tests}
 use Rattle.std.proofs.lemmas.Iterator.{YieldsList-from_slice}
 use Rattle.std.proofs.lemmas.Iterator.Search.{position_from_yields_List}
-use Rattle.sessions.proofs.Blanks.{is_blank, is_sign, first_place, first_split}
+use Rattle.sessions.specs.Words.{is_blank}
+use Rattle.sessions.proofs.Blanks.{is_sign, first_place, first_split}
 use Rattle.sessions.proofs.words.split_word.Goals as goal
 
 pub returns-clause-first : goal.returns-clause-first

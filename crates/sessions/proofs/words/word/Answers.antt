@@ -2,7 +2,7 @@
 use Rattle.std.proofs.Common.{◌≡◌, ◌+◌, [], drop, unwrap_or, get_or, ap, sym, ◌∙◌, arith, get_or-drop, drop-drop}
 use Rattle.std.proofs.lemmas.Option.{unwrap_or-slice_get}
 use Rattle.std.specs.List.{slice_get}
-use Rattle.sessions.proofs.Blanks.{words}
+use Rattle.sessions.specs.Words.{words}
 use Rattle.sessions.proofs.words.word.Goals as goal
 
 pub loop-preserved : goal.loop-preserved

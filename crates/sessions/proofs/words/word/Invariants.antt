@@ -1,6 +1,6 @@
 -- The first words are taken off, and the others stand in the rest.
 use Rattle.std.proofs.Common.{◌≡◌, ◌≤◌, length, drop}
-use Rattle.sessions.proofs.Blanks.{words}
+use Rattle.sessions.specs.Words.{words}
 use Rattle.sessions.proofs.words.word.Given as goal
 
 abbrev pub invariant-loop : goal.invariant-loop
